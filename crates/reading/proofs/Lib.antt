@@ -1,0 +1,3 @@
+pub mod Exact
+pub mod Fields
+pub mod Halves

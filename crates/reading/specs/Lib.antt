@@ -1,0 +1,4 @@
+pub mod Channel
+pub mod Rounding
+pub mod Kind
+pub mod Units

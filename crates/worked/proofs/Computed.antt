@@ -1,0 +1,12 @@
+-- The starred cases hold: each is computed from the definitions. Assumes nothing.
+use mathlib.Core.Path.{_≡_, refl}
+use lib.Ieee.{ofBits, ofFields, odd}
+use Rattle.refusal.specs.Choice.{pick}
+use Rattle.reading.specs.Kind.{readingOf}
+use Rattle.reading.specs.Rounding.{accepted, halfUp, unitCount}
+use Rattle.reading.specs.Units.{judgedOf, keep, secondFrom, secondOf}
+use Rattle.worked.specs.Cases.{gases, Worked}
+
+pub worked : Worked
+unfolding ofBits ofFields odd pick readingOf accepted halfUp unitCount judgedOf keep secondFrom secondOf gases
+worked = record { coBits = refl; coNegative = refl; hcAbove = refl; hcGreatest = refl }
