@@ -1618,14 +1618,14 @@ impl Bench {
     /// The first standing lock of a start at `now`.
     fn lock(&self, now: u32) -> Option<usize> {
         let all = &self.accepted[..];
-        let session = after_last(all, |k| matches!(k, Kept::PowerOn | Kept::ClockSetting));
+        let powered = after_last(all, |k| matches!(k, Kept::PowerOn | Kept::ClockSetting));
         let unlocked = after_last(all, |k| *k == Kept::AuthorityUnlock);
         let unsent = after_last(all, |k| *k == Kept::Upload);
         let standing = [
-            !holds(session, Kept::WarmUp),
-            too_long_idle(session, now),
-            calibration_lacks(session, now, self.v),
-            sign_in_lacks(session, now),
+            !holds(powered, Kept::WarmUp),
+            too_long_idle(powered, now),
+            calibration_lacks(powered, now, self.v),
+            sign_in_lacks(powered, now),
             wrong_row(unlocked) >= 4,
             holds(unlocked, Kept::AuthorityLock),
             verdicts(unsent) == self.u as usize,
@@ -1658,8 +1658,8 @@ fn holds(list: &[Accepted], kept: Kept) -> bool {
 }
 
 /// Lock 2: over 1,800 s since the latest warm-up or second.
-fn too_long_idle(session: &[Accepted], now: u32) -> bool {
-    let latest = session
+fn too_long_idle(powered: &[Accepted], now: u32) -> bool {
+    let latest = powered
         .iter()
         .rev()
         .find(|a| matches!(a.kept, Kept::WarmUp | Kept::Second));
@@ -1667,8 +1667,8 @@ fn too_long_idle(session: &[Accepted], now: u32) -> bool {
 }
 
 /// Lock 3: no calibration, latest not passed, or older than V.
-fn calibration_lacks(session: &[Accepted], now: u32, v: u32) -> bool {
-    match session
+fn calibration_lacks(powered: &[Accepted], now: u32, v: u32) -> bool {
+    match powered
         .iter()
         .rev()
         .find(|a| matches!(a.kept, Kept::Calibration(_)))
@@ -1679,8 +1679,8 @@ fn calibration_lacks(session: &[Accepted], now: u32, v: u32) -> bool {
 }
 
 /// Lock 4: no try, latest not good, or its expiry before now.
-fn sign_in_lacks(session: &[Accepted], now: u32) -> bool {
-    match session
+fn sign_in_lacks(powered: &[Accepted], now: u32) -> bool {
+    match powered
         .iter()
         .rev()
         .find(|a| matches!(a.kept, Kept::Try(_)))
@@ -1842,9 +1842,27 @@ fn reading_item(items: &mut Items) -> Option<String> {
     }
     let (gearbox, bits) = (items.u8()?, items.readings()?);
     Some(match judge_readings(gearbox == 2, &bits) {
-        Ok(readings) => readings.map(|r| r.to_string()).join(" "),
+        Ok(readings) => readings_text(&readings),
         Err(code) => refusal(8, code as usize).to_string(),
     })
+}
+
+/// The units of codes 1 to 7, 0 where there are none; code 8; then a word for
+/// an engine speed that is missing and for a gas that is over range.
+fn readings_text(readings: &[Reading; 8]) -> String {
+    let units = readings[..7].iter().map(|r| match r {
+        Reading::Units(n) => n.to_string(),
+        _ => "0".to_string(),
+    });
+    let mut words: Vec<String> = units.collect();
+    words.push(readings[7].to_string());
+    if readings[2] == Reading::Missing {
+        words.push("engine-missing".to_string());
+    }
+    if readings[3..7].contains(&Reading::Over) {
+        words.push("over-range".to_string());
+    }
+    words.join(" ")
 }
 
 fn mode_corrections(data: &[u8], out: &mut impl FnMut(&str)) {
@@ -2004,14 +2022,35 @@ fn test_line(outcome: &Result<Option<Step>, Refusal>) -> String {
     }
 }
 
+fn next_test_line(items: &mut Items, test: &mut Option<Running>) -> Option<String> {
+    let kind = items.u8()?;
+    let event = items.fields(kind)?;
+    Some(test_line(&test_item(test, &event)))
+}
+
 fn mode_tests(data: &[u8], out: &mut impl FnMut(&str)) {
     let mut items = Items { data };
     let mut test = None;
-    while let Some(kind) = items.u8() {
-        let Some(event) = items.fields(kind) else {
-            return;
-        };
-        out(&test_line(&test_item(&mut test, &event)));
+    while let Some(line) = next_test_line(&mut items, &mut test) {
+        out(&line);
+    }
+}
+
+/// An item behind its topic byte: 1 readings, 2 corrections, 3 tests.
+fn vector_item(items: &mut Items, test: &mut Option<Running>) -> Option<String> {
+    match items.u8()? {
+        1 => reading_item(items),
+        2 => correction_item(items),
+        3 => next_test_line(items, test),
+        _ => None,
+    }
+}
+
+fn mode_vectors(data: &[u8], out: &mut impl FnMut(&str)) {
+    let mut items = Items { data };
+    let mut test = None;
+    while let Some(line) = vector_item(&mut items, &mut test) {
+        out(&line);
     }
 }
 
@@ -3913,6 +3952,36 @@ fn make_tests(seed: u64, count: usize) -> Vec<u8> {
     out
 }
 
+/// Each item of a mode's input, behind its topic byte.
+fn put_topic(out: &mut Vec<u8>, topic: u8, data: &[u8], mut pass: impl FnMut(&mut Items) -> bool) {
+    let mut items = Items { data };
+    loop {
+        let before = items.data;
+        if !pass(&mut items) {
+            return;
+        }
+        out.push(topic);
+        out.extend(&before[..before.len() - items.data.len()]);
+    }
+}
+
+/// COUNT seeded readings and corrections behind their corners, and 88 tests:
+/// the scripts of both modes.
+fn make_vectors(seed: u64, count: usize) -> Vec<u8> {
+    let mut out = Vec::new();
+    let mut test = None;
+    put_topic(&mut out, 1, &make_readings(seed, count), |items| {
+        reading_item(items).is_some()
+    });
+    put_topic(&mut out, 2, &make_corrections(seed, count), |items| {
+        correction_item(items).is_some()
+    });
+    put_topic(&mut out, 3, &make_tests(seed, 88), |items| {
+        next_test_line(items, &mut test).is_some()
+    });
+    out
+}
+
 /// Scripted test number i: the modes in turn, so that few tests reach both.
 fn scripts_in_turn(car: Vehicle, seed: u64, i: usize) -> Option<Vec<Item>> {
     let mode = 1 + (i % 2) as u8;
@@ -5338,6 +5407,7 @@ fn made(what: &str, first: &str, second: Option<&String>) -> Option<Vec<u8>> {
         "readings" => make_readings(seed, count),
         "corrections" => make_corrections(seed, count),
         "tests" => make_tests(seed, count),
+        "vectors" => make_vectors(seed, count),
         "read" => make_read(seed, count),
         "write" => make_write(seed, count),
         "events" => make_events(seed, count),
@@ -5356,6 +5426,7 @@ fn run(args: &[String], out: &mut impl FnMut(&str)) -> io::Result<Option<bool>> 
         ["readings"] => mode_readings(&stdin_bytes()?, out),
         ["corrections"] => mode_corrections(&stdin_bytes()?, out),
         ["tests"] => mode_tests(&stdin_bytes()?, out),
+        ["vectors"] => mode_vectors(&stdin_bytes()?, out),
         ["read"] => mode_read(&stdin_bytes()?, out),
         ["write"] => mode_write(&stdin_bytes()?, out),
         ["reach", "judge-many", file] => {
