@@ -11,6 +11,7 @@
 use std::collections::{BTreeMap, VecDeque};
 use std::fmt;
 use std::io::{self, Read, Write};
+use std::process::{Command, Stdio};
 
 // ---------------------------------------------------------------------------
 // Refusals
@@ -1811,6 +1812,49 @@ fn mode_judge_many(data: &[u8], out: &mut impl FnMut(&str)) {
     }
 }
 
+/// Runs a program on each record and compares its line with ours. The first
+/// record that differs is saved. True where none does.
+fn mode_against(
+    program: &str,
+    data: &[u8],
+    save: &str,
+    out: &mut impl FnMut(&str),
+) -> io::Result<bool> {
+    let mut items = Items { data };
+    let (mut same, mut other) = (0, 0);
+    while let Some(record) = items.record() {
+        let (expected, got) = (rejudge_line(record), line_of_program(program, record)?);
+        if got == expected {
+            same += 1;
+            continue;
+        }
+        other += 1;
+        if other == 1 {
+            std::fs::write(save, record)?;
+            out(&format!(
+                "expected {expected}, got {got}: the record is {save}"
+            ));
+        }
+    }
+    out(&format!("{same} passed, {other} failed"));
+    Ok(other == 0)
+}
+
+/// What a program writes for a record on its standard input, without the
+/// newline at the end; a second line or none shows.
+fn line_of_program(program: &str, record: &[u8]) -> io::Result<String> {
+    let mut child = Command::new(program)
+        .stdin(Stdio::piped())
+        .stdout(Stdio::piped())
+        .spawn()?;
+    let mut input = child.stdin.take().expect("a piped input");
+    // A program that has its answer may leave the rest unread.
+    let _ = input.write_all(record);
+    drop(input);
+    let text = String::from_utf8_lossy(&child.wait_with_output()?.stdout).into_owned();
+    Ok(text.strip_suffix('\n').unwrap_or("(no line)").to_string())
+}
+
 fn mode_events(data: &[u8], out: &mut impl FnMut(&str)) {
     let mut items = Items { data };
     let (Some(v), Some(u)) = (items.u32(), items.u16()) else {
@@ -2467,6 +2511,20 @@ impl Script {
                 }
                 1..=54 => self.dirty(1),
                 _ => self.clean(1),
+            }
+        }
+    }
+
+    /// Four attempts of 90 measured seconds: mode 2 by q = 2, then a fail.
+    fn inconclusive_twice_in_each_mode(&mut self) {
+        for mode in [1, 2] {
+            self.mode = mode;
+            for attempt in [1, 2] {
+                self.settle();
+                self.inconclusive(false);
+                if attempt == 1 {
+                    self.rest();
+                }
             }
         }
     }
@@ -3166,6 +3224,9 @@ fn sample(name: &str) -> Option<Vec<u8>> {
             script.pass();
             script.clean(1);
         }
+        // 1,500 rows at rest, and the test with the most measured seconds.
+        "rest" => script.idle(1500, 0),
+        "long" => script.inconclusive_twice_in_each_mode(),
         _ => return None,
     }
     let mut dice = Dice(7);
@@ -5422,6 +5483,14 @@ fn run(args: &[String], out: &mut impl FnMut(&str)) -> io::Result<Option<bool>> 
     match words[..] {
         ["judge"] => out(&rejudge_line(&stdin_bytes()?)),
         ["judge-many", file] => mode_judge_many(&std::fs::read(file)?, out),
+        ["against", program, file, save] => {
+            return Ok(Some(mode_against(
+                program,
+                &std::fs::read(file)?,
+                save,
+                out,
+            )?))
+        }
         ["events"] => mode_events(&stdin_bytes()?, out),
         ["readings"] => mode_readings(&stdin_bytes()?, out),
         ["corrections"] => mode_corrections(&stdin_bytes()?, out),
