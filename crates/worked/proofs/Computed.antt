@@ -5,8 +5,26 @@ use Rattle.refusal.specs.Choice.{pick}
 use Rattle.reading.specs.Kind.{readingOf}
 use Rattle.reading.specs.Rounding.{accepted, halfUp, unitCount}
 use Rattle.reading.specs.Units.{judgedOf, keep, secondFrom, secondOf}
+use Rattle.correction.specs.Rounding as quotient
+use Rattle.correction.specs.Dilution.{dcfOf}
+use Rattle.correction.specs.Humidity.{kH}
+use Rattle.correction.proofs.Ranges.{k-dry}
+use Rattle.vehicle.specs.Driving.{inTolerance}
 use Rattle.worked.specs.Cases.{gases, Worked}
 
 pub worked : Worked
-unfolding ofBits ofFields odd pick readingOf accepted halfUp unitCount judgedOf keep secondFrom secondOf gases
-worked = record { coBits = refl; coNegative = refl; hcAbove = refl; hcGreatest = refl }
+unfolding ofBits ofFields odd pick readingOf accepted halfUp unitCount judgedOf keep secondFrom secondOf gases quotient.halfUp dcfOf kH inTolerance
+worked = record {
+  coBits = refl;
+  coNegative = refl;
+  hcAbove = refl;
+  hcGreatest = refl;
+  dcfUsual = refl;
+  dcfMost = refl;
+  dcfAbove = refl;
+  dcfLeast = refl;
+  kDry = k-dry;
+  kMoist = refl;
+  loadIn = refl;
+  loadOut = refl;
+}

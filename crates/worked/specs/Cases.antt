@@ -1,7 +1,7 @@
 -- Document 01, "Worked by hand": the starred cases as one table. Each row sets what the definitions give against what document 01 writes.
 use mathlib.Core.Path.{_≡_}
-use mathlib.Core.Bool.{Bool, false}
-use Prim.Native.Nat.{ℕ}
+use mathlib.Core.Bool.{Bool, true, false}
+use Prim.Native.Nat.{ℕ, _<_}
 use Rattle.refusal.specs.Table.{refusal}
 use Rattle.reading.specs.Kind.{readingOf}
 use Rattle.reading.specs.Units.{secondOf}
@@ -10,6 +10,9 @@ use Rattle.reading.specs.declared.Second.{Second}
 use Rattle.reading.specs.declared.Level.the-variants.{Count}
 use Rattle.reading.specs.declared.Converted.{Converted}
 use Rattle.reading.specs.declared.Converted.the-variants.{Fit, Refused}
+use Rattle.correction.specs.Dilution.{dcfOf}
+use Rattle.correction.specs.Humidity.{kH}
+use Rattle.vehicle.specs.Driving.{inTolerance}
 
 -- The units of a second whose HC and CO have these bits and whose other readings are 0, with a manual gearbox.
 unfoldable pub gases : ℕ → ℕ → Converted
@@ -42,6 +45,10 @@ counts hc co = record {
   oxygen = Count 0;
 }
 
+-- DCF of a CO2 and a CO in units.
+abbrev pub dcfAt : ℕ → ℕ → ℕ
+dcfAt a b = dcfOf (record { 0 = a }) (record { 0 = b })
+
 pub record Worked : Type 0 where
   -- CO bits 0x3F80A3D7: 100
   pub coBits : gases 0 0x3F80A3D7 ≡ Fit (counts 0 100)
@@ -51,3 +58,14 @@ pub record Worked : Type 0 where
   pub hcAbove : gases 0x461C3E00 0 ≡ Refused (refusal 8 4)
   -- HC 9999.4 (bits 0x461C3D9A): 9999
   pub hcGreatest : gases 0x461C3D9A 0 ≡ Fit (counts 9999 0)
+  -- DCF: a 120, b 100: 1,205,807; a 0, b 600: 3,000,000; a 153, b 0: 1,001,831; a 154, b 0: 1,000,000
+  pub dcfUsual : dcfAt 120 100 ≡ 1205807
+  pub dcfMost : dcfAt 0 600 ≡ 3000000
+  pub dcfAbove : dcfAt 153 0 ≡ 1001831
+  pub dcfLeast : dcfAt 154 0 ≡ 1000000
+  -- k: r 0: 739,449 (whatever p, and whatever B above 0); r 50, p 2339, B 1013: 897,914
+  pub kDry : (b p : ℕ) → 0 < b → kH 0 b p ≡ 739449
+  pub kMoist : kH 50 1013 2339 ≡ 897914
+  -- P 225: load 229 in, 230 out
+  pub loadIn : inTolerance 229 225 ≡ true
+  pub loadOut : inTolerance 230 225 ≡ false

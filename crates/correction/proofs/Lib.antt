@@ -1,0 +1,5 @@
+pub mod Halves
+pub mod Held
+pub mod Ranges
+pub mod Reduced
+pub mod Tested

@@ -1,0 +1,4 @@
+pub mod Rounding
+pub mod Dilution
+pub mod Humidity
+pub mod Annex

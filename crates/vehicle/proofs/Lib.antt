@@ -1,0 +1,4 @@
+pub mod Places
+pub mod Rows
+pub mod Fitness
+pub mod FitVehicle

@@ -1,0 +1,5 @@
+pub mod Settings
+pub mod Limits
+pub mod Loads
+pub mod Checked
+pub mod Driving

@@ -1,0 +1,3 @@
+pub mod Seconds
+pub mod Capped
+pub mod Bounded
