@@ -1,0 +1,3 @@
+pub mod Tests
+pub mod Most
+pub mod Ruled

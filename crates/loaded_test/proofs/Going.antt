@@ -1,0 +1,166 @@
+-- A test that has not ended takes every second and every stop of a fit cause, and has ended exactly where a verdict was told.
+-- Assumes nothing.
+use Prim.Native.Nat.{ℕ}
+use mathlib.Core.Bool.{Bool, true, false, _||_}
+use mathlib.Core.Path.{_≡_, refl, sym, ap, _∙_, subst}
+use lib.Dec.{eqb}
+use Rattle.refusal.specs.Choice.{pick}
+use Rattle.refusal.specs.Table.{causeUnfit}
+use Rattle.refusal.proofs.Picked.{on-pick}
+use Rattle.reading.specs.declared.Second.{Second}
+use Rattle.vehicle.specs.declared.Vehicle.{Vehicle}
+use Rattle.vehicle.specs.declared.Mode.{Mode}
+use Rattle.vehicle.specs.declared.Mode.the-variants.{One, Two}
+use Rattle.window.specs.declared.Measured as window
+use Rattle.window.specs.Measuring.{measuredOf}
+use Rattle.attempt.specs.declared.Screen.{Screen}
+use Rattle.attempt.specs.declared.Screen.the-variants.{Waits, Flawed, Clear}
+use Rattle.attempt.specs.declared.Ending.{Ending}
+use Rattle.attempt.specs.declared.Ending.the-variants.{NotYet, Passes, ModeEnds, Inconclusive}
+use Rattle.attempt.specs.declared.SettlingCounts.{SettlingCounts}
+use Rattle.attempt.specs.declared.MeasuringCounts.{MeasuringCounts}
+use Rattle.attempt.specs.Screening.{screened}
+use Rattle.attempt.specs.Settling.{secondOne, secondTwo}
+use Rattle.attempt.specs.Measuring.{tallied, restarts}
+use Rattle.attempt.specs.Ending.{endingRule}
+use Rattle.attempt.proofs.Tests.{nonsense}
+use Rattle.loaded_test.specs.declared.Word.{Word}
+use Rattle.loaded_test.specs.declared.Verdict.{Verdict}
+use Rattle.loaded_test.specs.declared.Did.{Did}
+use Rattle.loaded_test.specs.declared.Next.{Next}
+use Rattle.loaded_test.specs.declared.Next.the-variants.{GoesOn, Ends}
+use Rattle.loaded_test.specs.declared.Stage.{Stage}
+use Rattle.loaded_test.specs.declared.Stage.the-variants.{Settling, Measuring, Rest, Ended}
+use Rattle.loaded_test.specs.declared.VoidCounts.{VoidCounts}
+use Rattle.loaded_test.specs.declared.Progress.{Progress}
+use Rattle.loaded_test.specs.declared.Turn.{Turn}
+use Rattle.loaded_test.specs.declared.Act.{Act}
+use Rattle.loaded_test.specs.declared.Act.the-variants.{Turns, Measures, Refuses}
+use Rattle.loaded_test.specs.declared.Test.{Test}
+use Rattle.loaded_test.specs.declared.Stepped.{Stepped}
+use Rattle.loaded_test.specs.State.{withMeasuring, verdictOf, stepped, steppedWith, refused}
+use Rattle.loaded_test.specs.Voids.{ended, modeEnded, voidCounted, voidFollowed, voided, stepFive}
+use Rattle.loaded_test.specs.Rest.{restCount, rested}
+use Rattle.loaded_test.specs.Settling.{settlingLeft, closedOne, closedTwo, settlesIn, settles}
+use Rattle.loaded_test.specs.Measuring.{closed, concluded, judged, measures}
+use Rattle.loaded_test.specs.Steps.{inAttempt, actAt, measured, acted, second, causeFit, stopTaken, stop}
+use Rattle.loaded_test.specs.Going.{hasEnded, endsIn, Goes}
+use Rattle.loaded_test.proofs.Voiding.{same-end}
+
+-- A turn has ended the test exactly where it tells a verdict, with its word and its counts.
+record Level (x : Turn) : Type 0 where
+  stage : hasEnded (x .progress .stage) ≡ endsIn (x .next)
+  verdict :
+      (v : Verdict) →
+      x .next ≡ Ends v →
+      (x .progress .stage ≡ Ended (v .word)) × (v ≡ verdictOf (v .word) (x .progress .measuring))
+
+-- No verdict is told, and the test is open.
+open-level :
+    (x : Turn) → hasEnded (x .progress .stage) ≡ false → endsIn (x .next) ≡ false → Level x
+unfolding endsIn
+open-level x e f = record { stage = rw (e, f); verdict = λ v q. absurd (nonsense (sym (ap endsIn q) ∙ f)) }
+
+ended-level : (d : Did) (w : Word) (k : VoidCounts) (p : Progress) → Level (ended d w k p)
+unfolding hasEnded endsIn
+ended-level d w k p = record {
+  stage = refl;
+  verdict = λ v q.
+      subst (λ (y : Verdict). (Ended w ≡ Ended (y .word)) × (y ≡ verdictOf (y .word) (p .measuring))) (same-end q) (refl, refl);
+}
+
+turned : (x : Test) (y : Turn) → Level y → Goes (stepped x y)
+turned x y h = record { did = y .did; next = y .next; told = refl; stage = h .stage; verdict = h .verdict }
+
+mode-level : (m : Mode) (d : Did) (k : VoidCounts) (p : Progress) → Level (modeEnded m d k p)
+unfolding modeEnded hasEnded endsIn
+mode-level One d k p = open-level _ refl refl
+mode-level Two d k p = ended-level d _ k p
+
+void-level : (n : ℕ) (p : Progress) → Level (voided n p)
+unfolding voided voidFollowed hasEnded endsIn
+void-level n p =
+    on-pick Level (eqb (voidCounted n (p .voids) .inconclusive) 2) _ _
+    (λ _. mode-level (p .mode) _ _ p)
+    (λ _. on-pick Level (eqb (voidCounted n (p .voids) .voids) 3) _ _
+    (λ _. ended-level _ _ _ p)
+    (λ _. open-level _ refl refl))
+
+five-level : (d : Did) (q : Progress) → hasEnded (q .stage) ≡ false → Level (stepFive d q)
+unfolding stepFive endsIn
+five-level d q e = on-pick Level (eqb (q .counted) 145) _ _ (λ _. void-level 8 q) (λ _. open-level _ e refl)
+
+module _ (p : Progress) (running : hasEnded (p .stage) ≡ false) where
+  left-level : (starts used : Bool) (k : SettlingCounts) → Level (settlingLeft starts used k p)
+  unfolding settlingLeft hasEnded
+  left-level starts used k =
+      on-pick Level starts _ _
+      (λ _. five-level _ _ refl)
+      (λ _. on-pick Level used _ _ (λ _. void-level 7 p) (λ _. five-level _ _ running))
+
+  settles-level : (m : Mode) (v : Vehicle) (s : Second) → Level (settlesIn m v s p)
+  unfolding settlesIn closedOne closedTwo
+  settles-level One v s = left-level _ _ _
+  settles-level Two v s = left-level _ _ _
+
+  rest-level : (k : ℕ) → Level (rested k p)
+  unfolding rested hasEnded endsIn
+  rest-level k = on-pick Level (eqb k 10) _ _ (λ _. open-level _ refl refl) (λ _. open-level _ running refl)
+
+  closed-level : (e : Ending) (k : MeasuringCounts) → Level (closed e (withMeasuring k p))
+  unfolding closed
+  closed-level NotYet k = five-level _ _ running
+  closed-level Passes k = ended-level _ _ (p .voids) (withMeasuring k p)
+  closed-level ModeEnds k = mode-level (p .mode) _ _ _
+  closed-level Inconclusive k = void-level 9 _
+
+  stop-level : (resting : Bool) (n : ℕ) → Level (stopTaken resting n p)
+  unfolding stopTaken endsIn
+  stop-level resting n =
+      on-pick Level (resting || eqb (p .counted) 0) _ _ (λ _. open-level _ running refl) (λ _. void-level n p)
+
+  measures-goes : (x : Test) (m : window.Measured) (k : MeasuringCounts) → Goes (measures x m k p)
+  unfolding measures judged concluded
+  measures-goes x m k =
+      on-pick Goes (restarts k) _ _
+      (λ _. turned x _ (five-level _ _ running))
+      (λ _. let h = closed-level _ _ in record { did = _; next = _; told = refl; stage = h .stage; verdict = h .verdict })
+
+-- What a second of a test that has not ended comes to.
+attempt-goes :
+    (x : Test) (s : Second) (y : Screen) (measuring : Bool) →
+    hasEnded (x .progress .stage) ≡ false →
+    Goes (acted (inAttempt y measuring (x .vehicle) s (x .progress)) x s)
+unfolding inAttempt acted endsIn settles measured
+attempt-goes x s Waits measuring e = turned x _ (open-level _ e refl)
+attempt-goes x s (Flawed n) measuring e = turned x _ (void-level n _)
+attempt-goes x s Clear measuring e =
+    on-pick (λ (a : Act). Goes (acted a x s)) measuring _ _
+    (λ _. measures-goes _ e x _ _)
+    (λ _. turned x _ (settles-level _ e (x .progress .mode) (x .vehicle) s))
+
+acted-goes :
+    (x : Test) (s : Second) (st : Stage) →
+    hasEnded (x .progress .stage) ≡ false →
+    hasEnded st ≡ false →
+    Goes (acted (actAt st (x .vehicle) s (x .progress)) x s)
+unfolding actAt acted hasEnded
+acted-goes x s Settling e o = attempt-goes x s _ false e
+acted-goes x s Measuring e o = attempt-goes x s _ true e
+acted-goes x s Rest e o = turned x _ (rest-level (x .progress) e _)
+acted-goes x s (Ended w) e o = absurd (nonsense o)
+
+pub second-goes : (x : Test) (s : Second) → hasEnded (x .progress .stage) ≡ false → Goes (second x s)
+unfolding second
+second-goes x s e = acted-goes x s (x .progress .stage) e e
+
+pub stop-goes :
+    (x : Test) (n : ℕ) → causeFit n ≡ true → hasEnded (x .progress .stage) ≡ false → Goes (stop x n)
+unfolding stop pick
+stop-goes x n f e = rw (e, f) (turned x _ (stop-level (x .progress) e _ n))
+
+-- A stop of an unfit cause is refused 15 by a test that has not ended.
+pub stop-refused :
+    (x : Test) (n : ℕ) → causeFit n ≡ false → hasEnded (x .progress .stage) ≡ false → stop x n ≡ refused causeUnfit x
+unfolding stop pick
+stop-refused x n f e = rw (e, f)

@@ -1,0 +1,265 @@
+-- The pass claim and the laws, for every list of seconds and stops from the beginning of a test. Assumes nothing.
+use Prim.Native.Nat.{ℕ, suc, _+_, _-_, _≤_, _<_, min}
+use native.Mathlib.Omega.{arith}
+use mathlib.Core.Bool.{Bool, true, false, _&&_, _||_}
+use mathlib.Core.Path.{_≡_, refl, sym, ap, _∙_, subst, subst⁻¹}
+use mathlib.Core.List.{List, [], _∷_, _++_, map}
+use lib.Dec.{leb, eqb}
+use lib.ListN.{length, take, length-map, length-take}
+use lib.Seq.{take-all, take-take, take-append-le}
+use borrow.Author.Tests.{eqb-true}
+use Rattle.refusal.specs.Choice.{pick}
+use Rattle.refusal.specs.Table.{noTest, causeUnfit}
+use Rattle.refusal.proofs.Picked.{on-pick}
+use Rattle.reading.specs.declared.Second.{Second}
+use Rattle.vehicle.specs.declared.Vehicle.{Vehicle}
+use Rattle.window.specs.declared.Measured.{Measured}
+use Rattle.window.specs.Measuring.{measuredOf}
+use Rattle.loaded_test.specs.declared.Word.{Word}
+use Rattle.loaded_test.specs.declared.Did.the-variants.{Nothing}
+use Rattle.loaded_test.specs.declared.Next.the-variants.{GoesOn}
+use Rattle.loaded_test.specs.declared.Stage.{Stage}
+use Rattle.loaded_test.specs.declared.Stage.the-variants.{Settling, Measuring, Rest, Ended}
+use Rattle.attempt.specs.declared.Screen.{Screen}
+use Rattle.attempt.specs.declared.Screen.the-variants.{Waits, Flawed, Clear}
+use Rattle.loaded_test.specs.declared.Progress.{Progress}
+use Rattle.loaded_test.specs.declared.Turn.{Turn}
+use Rattle.loaded_test.specs.declared.Test.{Test}
+use Rattle.loaded_test.specs.State.{turn, nothing, withCounted, refused, stepped, began}
+use Rattle.loaded_test.specs.Going.{hasEnded}
+use Rattle.loaded_test.specs.Voids.{voided}
+use Rattle.attempt.specs.Screening.{waits, diluted, screened}
+use Rattle.loaded_test.specs.Steps.{counted, measured, inAttempt, actAt, acted, second, isResting, causeFit, stopTaken, stop}
+use Rattle.loaded_test.specs.Windows.{windowOf}
+use Rattle.loaded_test.specs.Log.{Entry, Input, aSecond, aStop, step, replay, logged, logOf}
+use Rattle.loaded_test.specs.Claim.{modeIn, voids, Clean, InAttempt, atStart, goesOn, PassClaim}
+use Rattle.loaded_test.specs.Laws.{Bounded, voidsIn, ninesIn, VoidClaim, IncompleteClaim, FailClaim, LastTen}
+use Rattle.attempt.proofs.Tests.{nonsense, and-left}
+use Rattle.loaded_test.proofs.Holding.{mostSettling, settling-most, Told, Open, Settles, Runs, Resting, AtStage, Claims, Good, entry, Stands, Kept}
+use Rattle.loaded_test.proofs.Voiding.{voided-good}
+use Rattle.loaded_test.proofs.Approach.{told-on, nothing-good, rest-good, settles-good}
+use Rattle.loaded_test.proofs.Taking.{kept-turn, measures-good}
+
+-- An open test's counts are within their bounds.
+open-bounded : (p : Progress) → Open p → p .voids .voids ≤ 2 → p .voids .inconclusive ≤ 1 → Bounded p
+open-bounded p o r q = let m = settling-most (p .mode) in omega arith
+
+module _ (x : Test) (log : List Entry) where
+  -- A test that is left as it was, with nothing told.
+  refused-stands :
+      (st : Stage) →
+      x .progress .stage ≡ st →
+      AtStage st (x .vehicle) log (x .progress) (x .last) →
+      Claims (x .vehicle) log →
+      Stands (x .vehicle) log x
+  refused-stands st e h c = record {
+    vehicle = refl;
+    stage = subst⁻¹ (λ (y : Stage). AtStage y (x .vehicle) log (x .progress) (x .last)) e h;
+    claims = c;
+  }
+
+  -- A second in an attempt, from what becomes of it where the test waits and where it is counted.
+  attempt-good :
+      (s : Second) (measuring : Bool) →
+      Told log (x .progress .mode) (x .progress .voids) →
+      Open (x .progress) →
+      (waits (x .progress .counted) s ≡ true → Good (x .vehicle) (aSecond s) log (x .last) (nothing (x .progress))) →
+      (Clean s → Kept (x .vehicle) (aSecond s) log (acted (inAttempt Clear measuring (x .vehicle) s (x .progress)) x s)) →
+      Kept (x .vehicle) (aSecond s) log (acted (inAttempt (screened (x .progress .counted) s) measuring (x .vehicle) s (x .progress)) x s)
+  unfolding screened inAttempt acted
+  attempt-good s measuring t o waiting clear =
+      let P : Screen → Type 0 = λ y. Kept (x .vehicle) (aSecond s) log (acted (inAttempt y measuring (x .vehicle) s (x .progress)) x s) in
+      let m = settling-most (x .progress .mode) in
+      on-pick P (waits (x .progress .counted) s) _ _
+      (λ e. kept-turn (x .vehicle) (aSecond s) log (x .last) (x .window) _ (waiting e))
+      (λ _. on-pick P (s .over) _ _
+      (λ _. kept-turn (x .vehicle) (aSecond s) log (x .last) (x .window) _
+      (voided-good (x .vehicle) (aSecond s) log (x .last) 6 (counted (x .progress)) t (omega arith)))
+      (λ f. on-pick P (diluted s) _ _
+      (λ _. kept-turn (x .vehicle) (aSecond s) log (x .last) (x .window) _
+      (voided-good (x .vehicle) (aSecond s) log (x .last) 5 (counted (x .progress)) t (omega arith)))
+      (λ g. clear (record { inRange = f; undiluted = g }))))
+
+  settling-good :
+      (s : Second) →
+      x .progress .stage ≡ Settling →
+      Settles log (x .progress) →
+      Kept (x .vehicle) (aSecond s) log (acted (actAt Settling (x .vehicle) s (x .progress)) x s)
+  unfolding actAt acted inAttempt voids pick
+  settling-good s e h =
+      let o = h .bounds in
+      attempt-good s false (h .told) (h .bounds)
+      (λ _. nothing-good (x .vehicle) (aSecond s) log (x .last) (x .progress)
+      (subst⁻¹ (λ (y : Stage). AtStage y (x .vehicle) (entry (aSecond s) (nothing (x .progress)) ∷ log) (x .progress) (x .last)) e
+      (record { told = told-on (aSecond s) log Nothing refl (h .told); bounds = h .bounds; attempt = goesOn refl refl (h .attempt) })))
+      (λ _. kept-turn (x .vehicle) (aSecond s) log (x .last) (x .window) _
+      (settles-good (x .vehicle) (aSecond s) log (x .last) s (counted (x .progress)) e (h .told) (omega arith) (omega arith) (omega arith) (h .attempt)))
+
+  measuring-good :
+      (s : Second) →
+      x .progress .stage ≡ Measuring →
+      Runs (x .vehicle) log (x .progress) (x .last) →
+      Kept (x .vehicle) (aSecond s) log (acted (actAt Measuring (x .vehicle) s (x .progress)) x s)
+  unfolding actAt acted inAttempt measured pick
+  measuring-good s e h =
+      let o = h .bounds in
+      let r = h .running .started in
+      attempt-good s true (h .told) (h .bounds)
+      (λ f. let z : x .progress .counted ≡ 0 = eqb-true _ _ (and-left (eqb (x .progress .counted) 0) (leb (s .speed) 10) f) in absurd (omega arith))
+      (λ c. measures-good x log s (counted (x .progress))
+      (record {
+        stage = e;
+        told = h .told;
+        bounds = omega arith;
+        most = omega arith;
+        running = record {
+          run = h .running .run;
+          old = h .running .old;
+          measures = h .running .measures;
+          started = omega arith;
+          tally = h .running .tally;
+          held = h .running .held;
+          clean = h .running .clean;
+          rows = h .running .rows;
+          few = h .running .few;
+          notYet = h .running .notYet;
+        };
+        unspoilt = c;
+      })
+      (measuredOf (x .vehicle) (x .progress .mode) s)
+      (ap (λ mode. measuredOf (x .vehicle) mode s) (h .told .mode)))
+
+  second-at :
+      (s : Second) (st : Stage) →
+      x .progress .stage ≡ st →
+      AtStage st (x .vehicle) log (x .progress) (x .last) →
+      Claims (x .vehicle) log →
+      Kept (x .vehicle) (aSecond s) log (acted (actAt st (x .vehicle) s (x .progress)) x s)
+  unfolding actAt acted logged
+  second-at s Settling e h c = settling-good s e h
+  second-at s Measuring e h c = measuring-good s e h
+  second-at s Rest e h c =
+      kept-turn (x .vehicle) (aSecond s) log (x .last) (x .window) _
+      (rest-good (x .vehicle) (aSecond s) log (x .last) s (x .progress) e (h .told) (h .bounds))
+  second-at s (Ended w) e h c = refused-stands (Ended w) e h c
+
+  -- A stop that an open test takes.
+  stop-taken :
+      (n : ℕ) (resting : Bool) →
+      Told log (x .progress .mode) (x .progress .voids) →
+      Open (x .progress) →
+      (resting || eqb (x .progress .counted) 0 ≡ true →
+      AtStage (x .progress .stage) (x .vehicle) (entry (aStop n) (nothing (x .progress)) ∷ log) (x .progress) (x .last)) →
+      Good (x .vehicle) (aStop n) log (x .last) (stopTaken resting n (x .progress))
+  unfolding stopTaken
+  stop-taken n resting told o idle =
+      on-pick (Good (x .vehicle) (aStop n) log (x .last)) (resting || eqb (x .progress .counted) 0) _ _
+      (λ e. nothing-good (x .vehicle) (aStop n) log (x .last) (x .progress) (idle e))
+      (λ _. voided-good (x .vehicle) (aStop n) log (x .last) n (x .progress) told
+      (open-bounded (x .progress) o (told .voidsLeft) (told .ninesLeft)))
+
+  stop-at :
+      (n : ℕ) (st : Stage) →
+      x .progress .stage ≡ st →
+      AtStage st (x .vehicle) log (x .progress) (x .last) →
+      hasEnded st ≡ false →
+      Good (x .vehicle) (aStop n) log (x .last) (stopTaken (isResting st) n (x .progress))
+  unfolding isResting hasEnded voids
+  stop-at n Settling e h c =
+      stop-taken n false (h .told) (h .bounds)
+      (λ _. subst⁻¹ (λ (y : Stage). AtStage y (x .vehicle) (entry (aStop n) (nothing (x .progress)) ∷ log) (x .progress) (x .last)) e
+      (record { told = told-on (aStop n) log Nothing refl (h .told); bounds = h .bounds; attempt = goesOn refl refl (h .attempt) }))
+  stop-at n Measuring e h c =
+      stop-taken n false (h .told) (h .bounds)
+      (λ f. let z : x .progress .counted ≡ 0 = eqb-true _ _ f in let r = h .running .started in absurd (omega arith))
+  stop-at n Rest e h c =
+      stop-taken n true (h .told) (h .bounds)
+      (λ _. subst⁻¹ (λ (y : Stage). AtStage y (x .vehicle) (entry (aStop n) (nothing (x .progress)) ∷ log) (x .progress) (x .last)) e
+      (record { told = told-on (aStop n) log Nothing refl (h .told); bounds = h .bounds }))
+  stop-at n (Ended w) e h c = absurd (nonsense c)
+
+  stop-good : (n : ℕ) → Stands (x .vehicle) log x → Kept (x .vehicle) (aStop n) log (stop x n)
+  unfolding stop logged
+  stop-good n h =
+      on-pick (Kept (x .vehicle) (aStop n) log) (hasEnded (x .progress .stage)) _ _
+      (λ _. h)
+      (λ e. on-pick (Kept (x .vehicle) (aStop n) log) (causeFit n) _ _
+      (λ _. kept-turn (x .vehicle) (aStop n) log (x .last) (x .window) _ (stop-at n (x .progress .stage) refl (h .stage) e))
+      (λ _. h))
+
+  step-good : (i : Input) → Stands (x .vehicle) log x → Kept (x .vehicle) i log (step x i)
+  unfolding second
+  step-good (aSecond s) h = second-at s (x .progress .stage) refl (h .stage) (h .claims)
+  step-good (aStop n) h = stop-good n h
+
+-- After every list of inputs.
+pub stands : (v : Vehicle) (l : List Input) → Stands v (logOf v l) (replay v l)
+unfolding logOf replay mostSettling voidsIn ninesIn modeIn
+stands v [] = record {
+  vehicle = refl;
+  stage = record {
+    told = record { mode = refl; voids = refl; nines = refl; voidsLeft = omega arith; ninesLeft = omega arith };
+    bounds = omega arith;
+    attempt = atStart;
+  };
+  claims = record { pass = tt; void = tt; incomplete = tt; fail = tt };
+}
+stands v (i ∷ l) =
+    let h : Stands v (logOf v l) (replay v l) = stands v l in
+    subst (λ (w : Vehicle). Kept w i (logOf v l) (step (replay v l) i)) (h .vehicle)
+    (step-good (replay v l) (logOf v l) i (subst⁻¹ (λ (w : Vehicle). Stands w (logOf v l) (replay v l)) (h .vehicle) h))
+
+-- A pass is earned.
+pub passes : (v : Vehicle) (l : List Input) → PassClaim v (logOf v l)
+passes v l = stands v l .claims .pass
+
+-- What follows a void.
+pub voids-followed : (v : Vehicle) (l : List Input) → VoidClaim (logOf v l)
+voids-followed v l = stands v l .claims .void
+
+-- "incomplete" only at r = 3 with q not 2.
+pub incomplete-only : (v : Vehicle) (l : List Input) → IncompleteClaim (logOf v l)
+incomplete-only v l = stands v l .claims .incomplete
+
+-- A fail only in mode 2, and for one of two reasons.
+pub fails-only : (v : Vehicle) (l : List Input) → FailClaim (logOf v l)
+fails-only v l = stands v l .claims .fail
+
+stage-bounded :
+    (v : Vehicle) (log : List Entry) (st : Stage) (p : Progress) (last : List Measured) → AtStage st v log p last → Bounded p
+stage-bounded v log Settling p last h = open-bounded p (h .bounds) (h .told .voidsLeft) (h .told .ninesLeft)
+stage-bounded v log Measuring p last h = open-bounded p (h .bounds) (h .told .voidsLeft) (h .told .ninesLeft)
+stage-bounded v log Rest p last h = open-bounded p (h .bounds) (h .told .voidsLeft) (h .told .ninesLeft)
+stage-bounded v log (Ended w) p last h = h
+
+-- c ≤ 145, t ≤ 90, r ≤ 3, q ≤ 2, no counter at its cap; passing plus failing is 0 before t = 10 and from there at most t − 9.
+pub bounded : (v : Vehicle) (l : List Input) → Bounded (replay v l .progress)
+bounded v l = stage-bounded v (logOf v l) (replay v l .progress .stage) (replay v l .progress) (replay v l .last) (stands v l .stage)
+
+-- The last ten seconds of a run, whatever stood there before it.
+ten-held :
+    (xs old last : List Measured) → take 10 last ≡ take 10 (xs ++ old) → take (length (take 10 xs)) last ≡ take 10 xs
+ten-held xs old last held =
+    let few : length (take 10 xs) ≤ 10 = omega (arith, length-take 10 xs) in
+    let some : length (take 10 xs) ≤ length xs = omega (arith, length-take 10 xs) in
+    sym (take-take (length (take 10 xs)) 10 last few) ∙
+    ap (take (length (take 10 xs))) held ∙
+    take-take (length (take 10 xs)) 10 (xs ++ old) few ∙
+    take-append-le (length (take 10 xs)) xs old some ∙
+    sym (take-take (length (take 10 xs)) 10 xs few) ∙
+    take-all (length (take 10 xs)) (take 10 xs) (omega arith)
+
+-- In measuring the last ten seconds are the last ten measured.
+pub last-ten :
+    (v : Vehicle) (l : List Input) →
+    replay v l .progress .stage ≡ Measuring →
+    LastTen v (logOf v l) (replay v l .last)
+unfolding windowOf
+last-ten v l e =
+    let h : Runs v (logOf v l) (replay v l .progress) (replay v l .last) =
+    subst (λ (y : Stage). AtStage y v (logOf v l) (replay v l .progress) (replay v l .last)) e (stands v l .stage) in
+    record {
+      run = h .running .run;
+      measures = h .running .measures;
+      same = ten-held (map (measuredOf v (modeIn (logOf v l))) (h .running .run)) (h .running .old) (replay v l .last) (h .running .held);
+    }

@@ -1,0 +1,17 @@
+-- `loaded_test::measuring::restarted` meets its contract. Assumes nothing.
+use mathlib.Core.Path.{_∙_}
+use borrow.Author.Needs.{needs}
+use Rattle.loaded_test.proofs.measuring.restarted.Statement.{statement}
+use Rattle.loaded_test.proofs.measuring.restarted.Tie as tie
+
+step-five-requires : tie.Need-step-five-requires
+step-five-requires c κs = search needs
+
+stepped-requires : tie.Need-stepped-requires
+stepped-requires c κs = search needs
+
+returns : tie.Need-returns
+returns c = c .stepped .ensures ∙ simp (c .before .step-five .ensures)
+
+pub restarted-spec : {M : Type 1} → statement M
+restarted-spec = tie.close (tie.spec step-five-requires stepped-requires returns)

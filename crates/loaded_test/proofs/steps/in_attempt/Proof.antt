@@ -1,0 +1,52 @@
+-- `loaded_test::steps::in_attempt` meets its contract. Assumes nothing.
+use Rattle.loaded_test.specs.Steps.{inAttempt}
+use borrow.Author.Needs.{needs}
+use Rattle.loaded_test.proofs.steps.in_attempt.Statement.{statement}
+use Rattle.loaded_test.proofs.steps.in_attempt.Tie as tie
+
+enum-told : tie.Need-enum-told
+enum-told c = search needs
+
+nothing-requires : tie.Need-nothing-requires
+nothing-requires c κs = search needs
+
+enum-known-screen : tie.Need-enum-known-screen
+enum-known-screen c = search needs
+
+counted-requires : tie.Need-counted-requires
+counted-requires c κs = search needs
+
+voided-requires : tie.Need-voided-requires
+voided-requires c κs = search needs
+
+enum-told-2 : tie.Need-enum-told-2
+enum-told-2 c = search needs
+
+cleared-requires : tie.Need-cleared-requires
+cleared-requires c κs = search needs
+
+returns : tie.Need-returns
+unfolding inAttempt
+returns c = simp (c .before .enum-told .given .1, c .nothing .ensures)
+
+returns-2 : tie.Need-returns-2
+unfolding inAttempt
+returns-2 c = simp (c .before .before .before .screen .given .1, c .voided .ensures, c .before .counted .ensures)
+
+returns-3 : tie.Need-returns-3
+returns-3 c = simp (c .before .enum-told2 .given .1) (c .cleared .ensures)
+
+pub in-attempt-spec : {M : Type 1} → statement M
+in-attempt-spec =
+    tie.close
+    (tie.spec
+    enum-told
+    nothing-requires
+    enum-known-screen
+    counted-requires
+    voided-requires
+    enum-told-2
+    cleared-requires
+    returns
+    returns-2
+    returns-3)

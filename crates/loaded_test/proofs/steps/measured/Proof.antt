@@ -1,0 +1,26 @@
+-- `loaded_test::steps::measured` meets its contract. Assumes nothing.
+use Rattle.loaded_test.specs.Steps.{measured}
+use mathlib.Core.Path.{_∙_}
+use borrow.Author.Needs.{needs}
+use Rattle.loaded_test.proofs.steps.measured.Statement.{statement}
+use Rattle.loaded_test.proofs.steps.measured.Tie as tie
+
+out-requires : tie.Need-out-requires
+out-requires c κs = search needs
+
+speed-requires : tie.Need-speed-requires
+speed-requires c κs = search needs
+
+tallied-requires : tie.Need-tallied-requires
+tallied-requires c κs = search needs
+
+measures-requires : tie.Need-measures-requires
+measures-requires c κs = search needs
+
+returns : tie.Need-returns
+unfolding measured
+returns c = c .measures .ensures ∙ simp (c .before .tallied .ensures, c .before .before .speed .ensures, c .before .before .before .out .ensures)
+
+pub measured-spec : {M : Type 1} → statement M
+measured-spec =
+    tie.close (tie.spec out-requires speed-requires tallied-requires measures-requires returns)

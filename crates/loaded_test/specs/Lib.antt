@@ -1,0 +1,11 @@
+pub mod State
+pub mod Going
+pub mod Voids
+pub mod Rest
+pub mod Settling
+pub mod Measuring
+pub mod Steps
+pub mod Windows
+pub mod Log
+pub mod Claim
+pub mod Laws

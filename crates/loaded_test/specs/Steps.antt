@@ -1,0 +1,98 @@
+-- One test: its beginning, a second and a stop.
+use Prim.Native.Nat.{ℕ}
+use mathlib.Core.Bool.{Bool, true, false, _&&_, _||_}
+use lib.Dec.{leb, eqb}
+use Rattle.refusal.specs.Choice.{pick}
+use Rattle.refusal.specs.Table.{noTest, causeUnfit}
+use Rattle.reading.specs.declared.Second.{Second}
+use Rattle.vehicle.specs.declared.Vehicle.{Vehicle}
+use Rattle.vehicle.specs.declared.Settings.{Settings}
+use Rattle.vehicle.specs.declared.Checked.{Checked}
+use Rattle.vehicle.specs.declared.Checked.the-variants.{Fit, Refused}
+use Rattle.vehicle.specs.Checked.{checkedOf}
+use Rattle.window.specs.declared.Measured.{Measured}
+use Rattle.window.specs.Measuring.{measuredOf}
+use Rattle.loaded_test.specs.declared.Stage.{Stage}
+use Rattle.loaded_test.specs.declared.Stage.the-variants.{Settling, Measuring, Rest, Ended}
+use Rattle.attempt.specs.declared.Screen.{Screen}
+use Rattle.attempt.specs.declared.Screen.the-variants.{Waits, Flawed, Clear}
+use Rattle.loaded_test.specs.declared.Act.{Act}
+use Rattle.loaded_test.specs.declared.Act.the-variants.{Turns, Measures, Refuses}
+use Rattle.loaded_test.specs.declared.Progress.{Progress}
+use Rattle.loaded_test.specs.declared.Turn.{Turn}
+use Rattle.loaded_test.specs.declared.Test.{Test}
+use Rattle.loaded_test.specs.declared.Stepped.{Stepped}
+use Rattle.loaded_test.specs.declared.Start.{Start}
+use Rattle.loaded_test.specs.declared.Start.the-variants as start
+use Rattle.loaded_test.specs.declared.Begun.{Begun}
+use Rattle.loaded_test.specs.State.{withCounted, nothing, stepped, refused, began, noneRunning}
+use Rattle.attempt.specs.Counting.{bump}
+use Rattle.loaded_test.specs.Going.{hasEnded}
+use Rattle.loaded_test.specs.Voids.{voided}
+use Rattle.loaded_test.specs.Rest.{restCount, rested}
+use Rattle.attempt.specs.Screening.{screened}
+use Rattle.loaded_test.specs.Settling.{settles}
+use Rattle.attempt.specs.Measuring.{tallied}
+use Rattle.loaded_test.specs.Measuring.{measures}
+
+-- "Otherwise c grows by 1."
+abbrev pub counted : Progress → Progress
+counted p = withCounted (bump (p .counted)) p
+
+-- A second in an attempt: steps 2 and 3, then step 4, where measuring takes the second with c grown.
+unfoldable pub inAttempt : Screen → Bool → Vehicle → Second → Progress → Act
+inAttempt Waits measuring v s p = Turns (nothing p)
+inAttempt (Flawed n) measuring v s p = Turns (voided n (counted p))
+inAttempt Clear measuring v s p = pick measuring (Measures (counted p)) (Turns (settles v s (counted p)))
+
+-- What a second comes to at each stage. "second or stop, no test": an ended test refuses it.
+unfoldable pub actAt : Stage → Vehicle → Second → Progress → Act
+actAt Settling v s p = inAttempt (screened (p .counted) s) false v s p
+actAt Measuring v s p = inAttempt (screened (p .counted) s) true v s p
+actAt Rest v s p = Turns (rested (restCount (p .resting) s) p)
+actAt (Ended w) v s p = Refuses noTest
+
+-- A measured second's units, taken up by t, u and w.
+unfoldable pub measured : Test → Second → Measured → Progress → Stepped
+measured x s m p = measures x m (tallied (m .out) (s .speed) (p .measuring)) p
+
+unfoldable pub acted : Act → Test → Second → Stepped
+acted (Turns y) x s = stepped x y
+acted (Measures p) x s = measured x s (measuredOf (x .vehicle) (p .mode) s) p
+acted (Refuses r) x s = refused r x
+
+-- A second.
+unfoldable pub second : Test → Second → Stepped
+second x s = acted (actAt (x .progress .stage) (x .vehicle) s (x .progress)) x s
+
+unfoldable pub isResting : Stage → Bool
+isResting Settling = false
+isResting Measuring = false
+isResting Rest = true
+isResting (Ended w) = false
+
+-- "A stop (1 brake, 2 stall, 3 operator, 4 low flow)"
+abbrev pub causeFit : ℕ → Bool
+causeFit n = leb 1 n && leb n 4
+
+-- "is a void of that number; in rest or at c = 0 it changes only the bench clock."
+unfoldable pub stopTaken : Bool → ℕ → Progress → Turn
+stopTaken resting n p = pick (resting || eqb (p .counted) 0) (nothing p) (voided n p)
+
+-- A stop: "second or stop, no test", then "stop cause", else it is taken.
+unfoldable pub stop : Test → ℕ → Stepped
+stop x n =
+    pick (hasEnded (x .progress .stage))
+    (refused noTest x)
+    (pick (causeFit n) (stepped x (stopTaken (isResting (x .progress .stage)) n (x .progress))) (refused causeUnfit x))
+
+abbrev pub startOf : Start → Test → Begun
+startOf answer test = record { answer = answer; test = test }
+
+unfoldable pub begunBy : Checked → Begun
+begunBy (Fit v) = startOf start.Begins (began v)
+begunBy (Refused r) = startOf (start.Refused r) noneRunning
+
+-- A test begins where its settings and its saturation pressure are fit, else the start is refused by document 01's number and place.
+unfoldable pub begin : Settings → ℕ → Begun
+begin settings saturation = begunBy (checkedOf settings saturation)

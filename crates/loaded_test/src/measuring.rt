@@ -1,0 +1,181 @@
+// Measuring: the counts, the window that ends here, and the ending rule.
+ghost use mathlib.Core.Path.{_≡_};
+ghost use mathlib.Core.List.{_∷_};
+ghost use lib.ListN.{take};
+ghost use Rattle.attempt.specs.declared.Ending.the-variants.{NotYet, Passes, ModeEnds};
+ghost use Rattle.loaded_test.specs.State.{withMeasuring, stepped, steppedWith};
+ghost use Rattle.loaded_test.specs.Measuring.{
+  closed,
+  concluded,
+  windowTaken,
+  windowJudged,
+  windowKept,
+  judged,
+  measures,
+};
+ghost use Rattle.loaded_test.specs.Voids.{stepFive};
+ghost use Rattle.loaded_test.specs.declared.Did.the-variants.{Restarted};
+ghost use Rattle.attempt.specs.Measuring.{noMeasuring};
+use crate::Answer;
+use crate::Did;
+use crate::Progress;
+use crate::Stepped;
+use crate::Test;
+use crate::Turn;
+use crate::Word;
+use crate::voids::NO_MEASURING;
+use crate::voids::ended;
+use crate::voids::mode_ended;
+use crate::voids::step_five;
+use crate::voids::voided;
+use attempt::Ending;
+use attempt::MeasuringCounts;
+use attempt::ending_rule;
+use attempt::restarts;
+use attempt::speed_held;
+use attempt::window_counted;
+use vehicle::Vehicle;
+use window::Measured;
+
+fn closed_mode(p: Progress) -> Turn
+    ensures { λ r. ⌜ r ≡ closed ModeEnds p ⌝ }
+{
+    let mode = p.mode;
+    let k = p.voids;
+    let m = p.measuring;
+    mode_ended(mode, Did::Measured(m.seconds), k, p)
+}
+
+fn closed_pass(p: Progress) -> Turn
+    ensures { λ r. ⌜ r ≡ closed Passes p ⌝ }
+{
+    let k = p.voids;
+    let m = p.measuring;
+    ended(Did::Measured(m.seconds), Word::Pass, k, p)
+}
+
+fn closed_not(p: Progress) -> Turn
+    ensures { λ r. ⌜ r ≡ closed NotYet p ⌝ }
+{
+    let m = p.measuring;
+    step_five(Did::Measured(m.seconds), p)
+}
+
+fn closed(ending: Ending, p: Progress) -> Turn
+    ensures { λ r. ⌜ r ≡ closed ending p ⌝ }
+{
+    match ending {
+        Ending::NotYet => closed_not(p),
+        Ending::Passes => closed_pass(p),
+        Ending::ModeEnds => closed_mode(p),
+        Ending::Inconclusive => voided(9, p),
+    }
+}
+
+fn concluded(k: MeasuringCounts, p: Progress) -> Turn
+    ensures { λ r. ⌜ r ≡ concluded k p ⌝ }
+{
+    let windows = k.windows;
+    let ending = ending_rule(k.seconds, windows, speed_held(k.first, k.tenth));
+    let mut q = p;
+    q.measuring = k;
+    closed(ending, q)
+}
+
+fn window_taken(t: u8, last: [Measured; 10]) -> bool
+    ensures { λ r. ⌜ r ≡ windowTaken t last ⌝ }
+{
+    if t < 10 {
+        return false;
+    }
+    window::valid(last)
+}
+
+pub(crate) fn stepped_with(v: Vehicle, last: [Measured; 10], w: [Measured; 10], x: Turn) -> Stepped
+    ensures { λ r. ⌜ r ≡ steppedWith v last w x ⌝ }
+{
+    let did = x.did;
+    let next = x.next;
+    let progress = x.progress;
+    Stepped {
+        answer: Answer::Told(did, next),
+        test: Test {
+            vehicle: v,
+            progress,
+            last,
+            window: w,
+        },
+    }
+}
+
+pub(crate) fn stepped(x: Test, turn: Turn) -> Stepped
+    ensures { λ r. ⌜ r ≡ stepped x turn ⌝ }
+{
+    let v = x.vehicle;
+    let last = x.last;
+    let w = x.window;
+    stepped_with(v, last, w, turn)
+}
+
+fn window_judged(
+    valid: bool,
+    v: Vehicle,
+    last: [Measured; 10],
+    k: MeasuringCounts,
+) -> MeasuringCounts
+    ensures { λ r. ⌜ r ≡ windowJudged valid v last k ⌝ }
+{
+    if valid {
+        return window_counted(window::passes(v, last), k);
+    }
+    k
+}
+
+fn window_kept(valid: bool, last: [Measured; 10], w: [Measured; 10]) -> [Measured; 10]
+    ensures { λ r. ⌜ r ≡ windowKept valid last w ⌝ }
+{
+    if valid {
+        return last;
+    }
+    w
+}
+
+fn judged(valid: bool, x: Test, k: MeasuringCounts, p: Progress, last: [Measured; 10]) -> Stepped
+    ensures { λ r. ⌜ r ≡ judged valid x k p last ⌝ }
+{
+    let v = x.vehicle;
+    let w = x.window;
+    stepped_with(
+        v,
+        last,
+        window_kept(valid, last, w),
+        concluded(window_judged(valid, v, last, k), p),
+    )
+}
+
+// The last ten seconds with this one.
+fn pushed(m: Measured, a: [Measured; 10]) -> [Measured; 10]
+    ensures { λ r. ⌜ r ≡ take 10 (m ∷ a) ⌝ }
+{
+    [m, a[0], a[1], a[2], a[3], a[4], a[5], a[6], a[7], a[8]]
+}
+
+fn restarted(x: Test, p: Progress) -> Stepped
+    ensures { λ r. ⌜ r ≡ stepped x (stepFive Restarted (withMeasuring noMeasuring p)) ⌝ }
+{
+    let mut q = p;
+    let none = NO_MEASURING;
+    q.measuring = none;
+    stepped(x, step_five(Did::Restarted, q))
+}
+
+pub(crate) fn measures(x: Test, m: Measured, k: MeasuringCounts, p: Progress) -> Stepped
+    ensures { λ r. ⌜ r ≡ measures x m k p ⌝ }
+{
+    if restarts(k) {
+        return restarted(x, p);
+    }
+    let a = x.last;
+    let last = pushed(m, a);
+    judged(window_taken(k.seconds, last), x, k, p, last)
+}

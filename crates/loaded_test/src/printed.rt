@@ -1,0 +1,105 @@
+// What is printed of a test: of the attempt that runs, or that the verdict ended.
+ghost use mathlib.Core.Path.{_≡_};
+ghost use Rattle.window.specs.Judging.{averagesOf};
+ghost use Rattle.loaded_test.specs.Going.{hasEnded};
+use crate::Progress;
+use crate::Stage;
+use crate::Test;
+use vehicle::Mode;
+use vehicle::Vehicle;
+use window::Averages;
+use window::Measured;
+
+// Mode, stage and all counts of document 01's state.
+// Ruled out: the counts before the last second, and those of another attempt.
+pub fn progress_of(x: Test) -> Progress
+    ensures { λ r. ⌜ r ≡ x .progress ⌝ }
+{
+    x.progress
+}
+
+// The stage; an ended one has the verdict's word.
+// Ruled out: Settling for every test, and the stage before the last second.
+pub fn stage_of(x: Test) -> Stage
+    ensures { λ r. ⌜ r ≡ x .progress .stage ⌝ }
+{
+    let p = x.progress;
+    p.stage
+}
+
+// Whether the test has its verdict.
+// Ruled out: a test in rest taken for ended, and a pass alone taken for the end.
+pub fn has_ended(x: Test) -> bool
+    ensures { λ r. ⌜ r ≡ hasEnded (x .progress .stage) ⌝ }
+{
+    let p = x.progress;
+    let stage = p.stage;
+    crate::steps::has_ended(stage)
+}
+
+// The mode, in which the verdict fell where there is one.
+// Ruled out: mode 1 for every test, and the mode that would come next.
+pub fn mode_of(x: Test) -> Mode
+    ensures { λ r. ⌜ r ≡ x .progress .mode ⌝ }
+{
+    let p = x.progress;
+    p.mode
+}
+
+// Document 01's t.
+// Ruled out: c in its place, and a t of an earlier attempt.
+pub fn seconds_of(x: Test) -> u8
+    ensures { λ r. ⌜ r ≡ x .progress .measuring .seconds ⌝ }
+{
+    x.progress.measuring.seconds
+}
+
+// Valid windows that pass.
+// Ruled out: those that fail, and all windows.
+pub fn passing_of(x: Test) -> u8
+    ensures { λ r. ⌜ r ≡ x .progress .measuring .windows .passing ⌝ }
+{
+    x.progress.measuring.windows.passing
+}
+
+// Valid windows that fail.
+// Ruled out: those that pass, and all windows.
+pub fn failing_of(x: Test) -> u8
+    ensures { λ r. ⌜ r ≡ x .progress .measuring .windows .failing ⌝ }
+{
+    x.progress.measuring.windows.failing
+}
+
+// Whether there is a last valid window.
+// Ruled out: always, and where ten seconds were measured, valid or not.
+pub fn has_window(x: Test) -> bool
+    ensures { λ r. ⌜ r ≡ x .progress .measuring .kept ⌝ }
+{
+    x.progress.measuring.kept
+}
+
+// The last valid window, where has_window tells that there is one.
+// Ruled out: the last ten seconds whether valid or not, and the first valid window.
+pub fn window_of(x: Test) -> [Measured; 10]
+    ensures { λ r. ⌜ r ≡ x .window ⌝ }
+{
+    x.window
+}
+
+// The vehicle.
+// Ruled out: a blank one, and one of other settings.
+pub fn vehicle_of(x: Test) -> Vehicle
+    ensures { λ r. ⌜ r ≡ x .vehicle ⌝ }
+{
+    x.vehicle
+}
+
+// The averages of the last valid window, where has_window tells that there is one.
+// Ruled out: those of the last ten seconds, and those with another vehicle's k.
+pub fn averages_of(x: Test) -> Averages
+    ensures { λ r. ⌜ r ≡ averagesOf (x .vehicle) (x .window) ⌝ }
+{
+    let v = x.vehicle;
+    let w = x.window;
+    window::averages_of(v, w)
+}

@@ -1,0 +1,17 @@
+// Words and numbers to standard output.
+pub(crate) fn text(s: &[u8]) {
+    io::write_all(1, s);
+}
+
+pub(crate) fn number(n: u64) {
+    io::print_decimal(1, n);
+}
+
+// "refused", the number and the place, and the line's end.
+pub(crate) fn refused(r: refusal::Refusal) {
+    text(b"refused ");
+    number(r.number as u64);
+    text(b" ");
+    number(r.place as u64);
+    text(b"\n");
+}
