@@ -2098,26 +2098,47 @@ fn mode_vectors(data: &[u8], out: &mut impl FnMut(&str)) {
     }
 }
 
+fn next_read_line(items: &mut Items) -> Option<String> {
+    Some(match read_record(items.record()?) {
+        Ok(r) => format!("fit {} {} {}", r.codes.len(), r.rows, r.stops.len()),
+        Err(refusal) => refusal.to_string(),
+    })
+}
+
 fn mode_read(data: &[u8], out: &mut impl FnMut(&str)) {
     let mut items = Items { data };
-    while let Some(record) = items.record() {
-        out(&match read_record(record) {
-            Ok(r) => format!("fit {} {} {}", r.codes.len(), r.rows, r.stops.len()),
-            Err(refusal) => refusal.to_string(),
-        });
+    while let Some(line) = next_read_line(&mut items) {
+        out(&line);
     }
+}
+
+fn next_write_line(items: &mut Items) -> Option<String> {
+    let (length, fill, content) = write_item(items)?;
+    let mut buffer = vec![fill; length];
+    let outcome = write_record(&content, &mut buffer);
+    let hash = fnv(&buffer);
+    Some(match outcome {
+        Ok(length) => format!("written {length} {hash}"),
+        Err(refusal) => format!("{refusal} {hash}"),
+    })
 }
 
 fn mode_write(data: &[u8], out: &mut impl FnMut(&str)) {
     let mut items = Items { data };
-    while let Some((length, fill, content)) = write_item(&mut items) {
-        let mut buffer = vec![fill; length];
-        let outcome = write_record(&content, &mut buffer);
-        let hash = fnv(&buffer);
-        out(&match outcome {
-            Ok(length) => format!("written {length} {hash}"),
-            Err(refusal) => format!("{refusal} {hash}"),
-        });
+    while let Some(line) = next_write_line(&mut items) {
+        out(&line);
+    }
+}
+
+/// An item behind its topic byte: 1 as in `read`, 2 as in `write`.
+fn mode_record_vectors(data: &[u8], out: &mut impl FnMut(&str)) {
+    let mut items = Items { data };
+    while let Some(line) = match items.u8() {
+        Some(1) => next_read_line(&mut items),
+        Some(2) => next_write_line(&mut items),
+        _ => None,
+    } {
+        out(&line);
     }
 }
 
@@ -4043,6 +4064,31 @@ fn make_vectors(seed: u64, count: usize) -> Vec<u8> {
     out
 }
 
+/// The items of `read` and `write`. Of writes of more than 4,000 bytes each
+/// content comes once, and none that has more cells than 16,384.
+fn make_record_vectors(seed: u64, count: usize) -> Vec<u8> {
+    let mut out = Vec::new();
+    put_topic(&mut out, 1, &make_read(seed, count), |items| {
+        items.record().is_some()
+    });
+    let data = make_write(seed, count);
+    let mut items = Items { data: &data };
+    let mut before: &[u8] = &[];
+    loop {
+        let start = items.data;
+        let Some((_, _, content)) = write_item(&mut items) else {
+            return out;
+        };
+        let item = &start[..start.len() - items.data.len()];
+        let again = item.len() > 4000 && before.len() == item.len() && before[5..] == item[5..];
+        if !again && content.cells.len() <= 16384 && item.len() <= 70_000 {
+            out.push(2);
+            out.extend(item);
+        }
+        before = item;
+    }
+}
+
 /// Scripted test number i: the modes in turn, so that few tests reach both.
 fn scripts_in_turn(car: Vehicle, seed: u64, i: usize) -> Option<Vec<Item>> {
     let mode = 1 + (i % 2) as u8;
@@ -5469,6 +5515,7 @@ fn made(what: &str, first: &str, second: Option<&String>) -> Option<Vec<u8>> {
         "corrections" => make_corrections(seed, count),
         "tests" => make_tests(seed, count),
         "vectors" => make_vectors(seed, count),
+        "record_vectors" => make_record_vectors(seed, count),
         "read" => make_read(seed, count),
         "write" => make_write(seed, count),
         "events" => make_events(seed, count),
@@ -5498,6 +5545,7 @@ fn run(args: &[String], out: &mut impl FnMut(&str)) -> io::Result<Option<bool>> 
         ["vectors"] => mode_vectors(&stdin_bytes()?, out),
         ["read"] => mode_read(&stdin_bytes()?, out),
         ["write"] => mode_write(&stdin_bytes()?, out),
+        ["record_vectors"] => mode_record_vectors(&stdin_bytes()?, out),
         ["reach", "judge-many", file] => {
             return Ok(Some(reach_records(&std::fs::read(file)?).report(out)))
         }
