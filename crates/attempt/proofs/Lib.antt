@@ -1,3 +1,4 @@
 pub mod Tests
 pub mod Most
 pub mod Ruled
+pub mod Sums

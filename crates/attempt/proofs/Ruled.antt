@@ -10,8 +10,17 @@ use Rattle.refusal.proofs.Picked.{on-pick}
 use Rattle.attempt.specs.declared.WindowCounts.{WindowCounts}
 use Rattle.attempt.specs.declared.Ending.{Ending}
 use Rattle.attempt.specs.declared.Ending.the-variants.{NotYet, Passes, ModeEnds, Inconclusive}
-use Rattle.attempt.specs.Ending.{atNinety, endingRule}
+use Rattle.attempt.specs.Ending.{atNinety, earlyPass, endingRule}
 use Rattle.attempt.proofs.Tests.{and-left, and-right}
+
+early-least :
+    (t : ℕ) (k : WindowCounts) (held : Bool) → earlyPass t k held ≡ true → (25 ≤ t) × (15 ≤ k .passing)
+unfolding earlyPass
+early-least t k held e =
+    let both = and-left (leb _ t && leb _ (k .passing)) _ e in (
+      leb-true _ _ (and-left (leb _ t) (leb _ (k .passing)) both),
+      leb-true _ _ (and-right (leb _ t) (leb _ (k .passing)) both),
+    )
 
 -- What holds of each outcome, from what led to it, holds of the rule's.
 pub on-ending :
@@ -23,16 +32,23 @@ pub on-ending :
     P (endingRule t k held)
 unfolding endingRule atNinety
 on-ending P t k held passes mode none open' =
-    on-pick P (leb 25 t && leb 15 (k .passing) && held) _ _
-    (λ e. let both = and-left (leb 25 t && leb 15 (k .passing)) held e in
-    passes
-    (leb-true _ _ (and-left (leb 25 t) (leb 15 (k .passing)) both))
-    (leb-true _ _ (and-right (leb 25 t) (leb 15 (k .passing)) both)))
+    on-pick P (earlyPass t k held) _ _
+    (λ e. passes (early-least t k held e .0) (early-least t k held e .1))
     (λ e. on-pick P (eqb t 90) _ _
     (λ f. let g : t ≡ 90 = eqb-true _ _ f in
-    on-pick P (leb 15 (k .passing)) _ _
+    on-pick P _ _ _
     (λ h. passes (omega arith) (leb-true _ _ h))
-    (λ h. on-pick P (leb 25 (k .failing)) _ _
+    (λ h. on-pick P _ _ _
     (λ j. mode g (leb-false _ _ h) (leb-true _ _ j))
     (λ j. none g)))
     (λ f. open' (eqb-false _ _ f)))
+
+-- A pass wants t ≥ 25 and passing ≥ 15.
+pub pass-ruled :
+    (t : ℕ) (k : WindowCounts) (held : Bool) → endingRule t k held ≡ Passes → (25 ≤ t) × (15 ≤ k .passing)
+pass-ruled t k held =
+    on-ending (λ (x : Ending). x ≡ Passes → (25 ≤ t) × (15 ≤ k .passing)) t k held
+    (λ least enough e. (least, enough))
+    (λ ninety few enough e. let z : _≡_ {A = ℕ} 0 1 = cc in absurd (omega arith))
+    (λ ninety e. let z : _≡_ {A = ℕ} 0 1 = cc in absurd (omega arith))
+    (λ open'' e. let z : _≡_ {A = ℕ} 0 1 = cc in absurd (omega arith))

@@ -15,7 +15,10 @@ speedHeld first tenth = leb first (tenth + 8)
 unfoldable pub atNinety : WindowCounts → Ending
 atNinety k = pick (leb 15 (k .passing)) Passes (pick (leb 25 (k .failing)) ModeEnds Inconclusive)
 
--- "If t ≥ 25, passing ≥ 15 and second 10's speed is at most 8 below second 1's (of this t): pass. Else at t = 90: .."
+-- "If t ≥ 25, passing ≥ 15 and second 10's speed is at most 8 below second 1's (of this t): pass."
+unfoldable pub earlyPass : ℕ → WindowCounts → Bool → Bool
+earlyPass t k held = leb 25 t && leb 15 (k .passing) && held
+
+-- "pass. Else at t = 90: .."
 unfoldable pub endingRule : ℕ → WindowCounts → Bool → Ending
-endingRule t k held =
-    pick (leb 25 t && leb 15 (k .passing) && held) Passes (pick (eqb t 90) (atNinety k) NotYet)
+endingRule t k held = pick (earlyPass t k held) Passes (pick (eqb t 90) (atNinety k) NotYet)

@@ -39,11 +39,11 @@ use Rattle.loaded_test.specs.declared.Act.the-variants.{Turns, Measures,
 use Rattle.loaded_test.specs.declared.Test.{Test}
 use Rattle.loaded_test.specs.declared.Stepped.{Stepped}
 use Rattle.loaded_test.specs.State.{withMeasuring, verdictOf, stepped, steppedWith, refused}
-use Rattle.loaded_test.specs.Voids.{ended, modeEnded, voidCounted, voidFollowed, voided, stepFive}
+use Rattle.loaded_test.specs.Voids.{ended, modeEnded, voidCounted, voidNext, twiceInconclusive, thirdVoid, voidFollowed, voided, stepFive}
 use Rattle.loaded_test.specs.Rest.{restCount, rested}
 use Rattle.loaded_test.specs.Settling.{settlingLeft, closedOne, closedTwo, settlesIn, settles}
 use Rattle.loaded_test.specs.Measuring.{closed, concluded, judged, measures}
-use Rattle.loaded_test.specs.Steps.{inAttempt, actAt, measured, acted, second, causeFit, stopTaken, stop}
+use Rattle.loaded_test.specs.Steps.{inAttempt, actAt, taken, measured, acted, second, causeFit, stopTaken, stop}
 use Rattle.loaded_test.specs.Going.{hasEnded, endsIn, Goes}
 use Rattle.loaded_test.proofs.Voiding.{same-end}
 
@@ -78,11 +78,11 @@ mode-level One d k p = open-level _ refl refl
 mode-level Two d k p = ended-level d _ k p
 
 void-level : (n : ℕ) (p : Progress) → Level (voided n p)
-unfolding voided voidFollowed hasEnded endsIn
+unfolding voided voidFollowed voidNext hasEnded endsIn
 void-level n p =
-    on-pick Level (eqb (voidCounted n (p .voids) .inconclusive) 2) _ _
+    on-pick Level (twiceInconclusive (voidCounted n (p .voids))) _ _
     (λ _. mode-level (p .mode) _ _ p)
-    (λ _. on-pick Level (eqb (voidCounted n (p .voids) .voids) 3) _ _
+    (λ _. on-pick Level (thirdVoid (voidCounted n (p .voids))) _ _
     (λ _. ended-level _ _ _ p)
     (λ _. open-level _ refl refl))
 
@@ -131,7 +131,7 @@ attempt-goes :
     (x : Test) (s : Second) (y : Screen) (measuring : Bool) →
     hasEnded (x .progress .stage) ≡ false →
     Goes (acted (inAttempt y measuring (x .vehicle) s (x .progress)) x s)
-unfolding inAttempt acted endsIn settles measured
+unfolding inAttempt acted endsIn settles taken measured
 attempt-goes x s Waits measuring e = turned x _ (open-level _ e refl)
 attempt-goes x s (Flawed n) measuring e = turned x _ (void-level n _)
 attempt-goes x s Clear measuring e =

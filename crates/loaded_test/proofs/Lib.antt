@@ -6,3 +6,4 @@ pub mod Tally
 pub mod Taking
 pub mod Passing
 pub mod Going
+pub mod Examples

@@ -29,7 +29,7 @@ use Rattle.loaded_test.specs.State.{turn, nothing, withCounted, refused,
 use Rattle.loaded_test.specs.Going.{hasEnded}
 use Rattle.loaded_test.specs.Voids.{voided}
 use Rattle.attempt.specs.Screening.{waits, diluted, screened}
-use Rattle.loaded_test.specs.Steps.{counted, measured, inAttempt, actAt, acted, second, isResting, causeFit, stopTaken, stop}
+use Rattle.loaded_test.specs.Steps.{counted, taken, measured, inAttempt, actAt, acted, second, isResting, causeFit, stopTaken, stop}
 use Rattle.loaded_test.specs.Windows.{windowOf}
 use Rattle.loaded_test.specs.Log.{Entry, Input, aSecond, aStop, step, replay, logged, logOf}
 use Rattle.loaded_test.specs.Claim.{modeIn, voids, Clean, InAttempt, atStart, goesOn, PassClaim}
@@ -100,7 +100,7 @@ module _ (x : Test) (log : List Entry) where
       x .progress .stage ≡ Measuring →
       Runs (x .vehicle) log (x .progress) (x .last) →
       Kept (x .vehicle) (aSecond s) log (acted (actAt Measuring (x .vehicle) s (x .progress)) x s)
-  unfolding actAt acted inAttempt measured pick
+  unfolding actAt acted inAttempt taken measured pick
   measuring-good s e h =
       let o = h .bounds in
       let r = h .running .started in

@@ -25,7 +25,7 @@ use Rattle.loaded_test.specs.declared.Progress.{Progress}
 use Rattle.loaded_test.specs.declared.Turn.{Turn}
 use Rattle.loaded_test.specs.State.{emptied, noVoids, turn, withVerdict, verdictOf}
 use Rattle.attempt.specs.Counting.{bump, inRow}
-use Rattle.loaded_test.specs.Voids.{ended, modeEnded, voidCounted, voidFollowed, voided, stepFive}
+use Rattle.loaded_test.specs.Voids.{ended, modeEnded, voidCounted, voidNext, twiceInconclusive, thirdVoid, voidFollowed, voided, stepFive}
 use Rattle.loaded_test.specs.Log.{Entry, Input}
 use Rattle.loaded_test.specs.Claim.{modeAfter, modeIn, begins, voids, InAttempt, begun}
 use Rattle.loaded_test.specs.Laws.{Bounded, voidAdded, voidsKept, voidsIn, ninesIn, EndsWith, ModeOver, VoidFollows}
@@ -55,6 +55,22 @@ fail-incomplete e = let z : _≡_ {A = ℕ} 0 1 = cc in omega arith
 
 pub incomplete-pass : Incomplete ≡ Pass → ⊥
 incomplete-pass e = let z : _≡_ {A = ℕ} 0 1 = cc in omega arith
+
+twice-two : (k : VoidCounts) → twiceInconclusive k ≡ true → k .inconclusive ≡ 2
+unfolding twiceInconclusive
+twice-two k e = eqb-true _ _ e
+
+once-not-two : (k : VoidCounts) → twiceInconclusive k ≡ false → k .inconclusive ≡ 2 → ⊥
+unfolding twiceInconclusive
+once-not-two k e = eqb-false _ _ e
+
+third-three : (k : VoidCounts) → thirdVoid k ≡ true → k .voids ≡ 3
+unfolding thirdVoid
+third-three k e = eqb-true _ _ e
+
+fewer-not-three : (k : VoidCounts) → thirdVoid k ≡ false → k .voids ≡ 3 → ⊥
+unfolding thirdVoid
+fewer-not-three k e = eqb-false _ _ e
 
 -- Why a mode ends: two inconclusive voids in a row, or failing at t = 90.
 abbrev pub Reason : List Entry → Did → Verdict → Type 0
@@ -175,16 +191,16 @@ module _ (v : Vehicle) (i : Input) (log : List Entry) where
         k .voids ≤ 3 →
         k .inconclusive ≤ 2 →
         Good v i log last (voidFollowed n k p)
-    unfolding voidFollowed voidAdded
+    unfolding voidFollowed voidNext voidAdded
     followed n k p told b r q most least =
-        on-pick (Good v i log last) (eqb (k .inconclusive) 2) _ _
+        on-pick (Good v i log last) (twiceInconclusive k) _ _
         (λ e. mode-ended (p .mode) (Voided n) k p (told .mode) (omega arith)
-        (λ m f. rw (← same-void f) (sym q ∙ eqb-true _ _ e))
-        (inl (sym q ∙ eqb-true _ _ e)))
-        (λ e. on-pick (Good v i log last) (eqb (k .voids) 3) _ _
-        (λ f. incomplete-told n k p (omega arith) (λ x. eqb-false _ _ e (q ∙ x)) (sym r ∙ eqb-true _ _ f))
-        (λ f. let g : k .inconclusive ≡ 2 → ⊥ = eqb-false _ _ e in
-        let h : k .voids ≡ 3 → ⊥ = eqb-false _ _ f in
+        (λ m f. rw (← same-void f) (sym q ∙ twice-two k e))
+        (inl (sym q ∙ twice-two k e)))
+        (λ e. on-pick (Good v i log last) (thirdVoid k) _ _
+        (λ f. incomplete-told n k p (omega arith) (λ x. once-not-two k e (q ∙ x)) (sym r ∙ third-three k f))
+        (λ f. let g : k .inconclusive ≡ 2 → ⊥ = once-not-two k e in
+        let h : k .voids ≡ 3 → ⊥ = fewer-not-three k f in
         rests-told n k p (told .mode) r q (omega arith) (omega arith)))
 
     pub voided-good : (n : ℕ) (p : Progress) → Told log (p .mode) (p .voids) → Bounded p → Good v i log last (voided n p)

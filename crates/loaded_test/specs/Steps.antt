@@ -52,13 +52,17 @@ actAt Measuring v s p = inAttempt (screened (p .counted) s) true v s p
 actAt Rest v s p = Turns (rested (restCount (p .resting) s) p)
 actAt (Ended w) v s p = Refuses noTest
 
--- A measured second's units, taken up by t, u and w.
-unfoldable pub measured : Test → Second → Measured → Progress → Stepped
-measured x s m p = measures x m (tallied (m .out) (s .speed) (p .measuring)) p
+-- A second's units, taken up by t, u and w.
+unfoldable pub taken : Test → Second → Measured → Progress → Stepped
+taken x s m p = measures x m (tallied (m .out) (s .speed) (p .measuring)) p
+
+-- A measured second.
+unfoldable pub measured : Test → Second → Progress → Stepped
+measured x s p = taken x s (measuredOf (x .vehicle) (p .mode) s) p
 
 unfoldable pub acted : Act → Test → Second → Stepped
 acted (Turns y) x s = stepped x y
-acted (Measures p) x s = measured x s (measuredOf (x .vehicle) (p .mode) s) p
+acted (Measures p) x s = measured x s p
 acted (Refuses r) x s = refused r x
 
 -- A second.

@@ -31,13 +31,22 @@ unfoldable pub voidCounted : ℕ → VoidCounts → VoidCounts
 voidCounted n k = record { voids = bump (k .voids); inconclusive = inRow (eqb n 9) (k .inconclusive) }
 
 -- "q = 2: mode 2 begins, or fail in mode 2. Else r = 3: incomplete. Else rest, windows empty and every count but r and q 0."
-unfoldable pub voidFollowed : ℕ → VoidCounts → Progress → Turn
-voidFollowed n k p =
-    pick (eqb (k .inconclusive) 2)
+unfoldable pub voidNext : Bool → Bool → ℕ → VoidCounts → Progress → Turn
+voidNext twice third n k p =
+    pick twice
     (modeEnded (p .mode) (Voided n) k p)
-    (pick (eqb (k .voids) 3)
-    (ended (Voided n) Incomplete k p)
-    (turn (Voided n) Rests (emptied (p .mode) Rest k)))
+    (pick third (ended (Voided n) Incomplete k p) (turn (Voided n) Rests (emptied (p .mode) Rest k)))
+
+-- "q = 2"
+unfoldable pub twiceInconclusive : VoidCounts → Bool
+twiceInconclusive k = eqb (k .inconclusive) 2
+
+-- "r = 3"
+unfoldable pub thirdVoid : VoidCounts → Bool
+thirdVoid k = eqb (k .voids) 3
+
+unfoldable pub voidFollowed : ℕ → VoidCounts → Progress → Turn
+voidFollowed n k p = voidNext (twiceInconclusive k) (thirdVoid k) n k p
 
 -- A void of a number.
 unfoldable pub voided : ℕ → Progress → Turn

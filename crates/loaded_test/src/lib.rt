@@ -135,6 +135,16 @@ pub(crate) enum Act {
     Refuses(Refusal),
 }
 
+const NO_TEST: Refusal = Refusal {
+    number: 13,
+    place: 0,
+};
+
+const CAUSE_UNFIT: Refusal = Refusal {
+    number: 15,
+    place: 0,
+};
+
 // A test of no seconds.
 fn test_of(v: Vehicle, p: Progress) -> Test
     ensures { λ r. ⌜ r ≡ testOf v p ⌝ }
@@ -206,10 +216,10 @@ pub fn stop(test: Test, cause: u8) -> Stepped
     let p = test.progress;
     let stage = p.stage;
     if steps::has_ended(stage) {
-        return steps::refused_by(13, test);
+        return steps::refused(NO_TEST, test);
     }
     if steps::cause_fit(cause) {
         return measuring::stepped(test, steps::stop_taken(steps::is_resting(stage), cause, p));
     }
-    steps::refused_by(15, test)
+    steps::refused(CAUSE_UNFIT, test)
 }

@@ -85,10 +85,8 @@ fn concluded(k: MeasuringCounts, p: Progress) -> Turn
 fn window_taken(t: u8, last: [Measured; 10]) -> bool
     ensures { λ r. ⌜ r ≡ windowTaken t last ⌝ }
 {
-    if t < 10 {
-        return false;
-    }
-    window::valid(last)
+    let valid = window::valid(last);
+    (10 <= t) & valid
 }
 
 pub(crate) fn stepped_with(v: Vehicle, last: [Measured; 10], w: [Measured; 10], x: Turn) -> Stepped

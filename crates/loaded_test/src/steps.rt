@@ -1,8 +1,7 @@
 // A second and a stop, by the stage.
 ghost use mathlib.Core.Path.{_≡_};
-ghost use Rattle.refusal.specs.Table.{refusal};
 ghost use Rattle.attempt.specs.declared.Screen.the-variants.{Clear};
-ghost use Rattle.loaded_test.specs.declared.Act.the-variants.{Turns, Measures};
+ghost use Rattle.loaded_test.specs.declared.Act.the-variants.{Turns};
 ghost use Rattle.loaded_test.specs.State.{refused};
 ghost use Rattle.loaded_test.specs.Going.{hasEnded};
 ghost use Rattle.loaded_test.specs.Rest.{restCount, rested};
@@ -18,6 +17,7 @@ ghost use Rattle.loaded_test.specs.Steps.{
 };
 use crate::Act;
 use crate::Answer;
+use crate::NO_TEST;
 use crate::Progress;
 use crate::Stage;
 use crate::Stepped;
@@ -37,7 +37,6 @@ use attempt::tallied;
 use reading::Second;
 use refusal::Refusal;
 use vehicle::Vehicle;
-use window::Measured;
 
 fn counted(p: Progress) -> Progress
     ensures { λ r. ⌜ r ≡ counted p ⌝ }
@@ -81,30 +80,22 @@ pub(crate) fn act_at(stage: Stage, v: Vehicle, s: Second, p: Progress) -> Act
         Stage::Settling => in_attempt(screened(p.counted, s), false, v, s, p),
         Stage::Measuring => in_attempt(screened(p.counted, s), true, v, s, p),
         Stage::Rest => in_rest(s, p),
-        Stage::Ended(_) => Act::Refuses(Refusal {
-            number: 13,
-            place: 0,
-        }),
+        Stage::Ended(_) => Act::Refuses(NO_TEST),
     }
 }
 
-fn measured(x: Test, s: Second, m: Measured, p: Progress) -> Stepped
-    ensures { λ r. ⌜ r ≡ measured x s m p ⌝ }
-{
-    let k = p.measuring;
-    measures(x, m, tallied(m.out(), s.speed(), k), p)
-}
-
-fn measured_with(x: Test, s: Second, p: Progress) -> Stepped
-    ensures { λ r. ⌜ r ≡ acted (Measures p) x s ⌝ }
+fn measured(x: Test, s: Second, p: Progress) -> Stepped
+    ensures { λ r. ⌜ r ≡ measured x s p ⌝ }
 {
     let v = x.vehicle;
     let mode = p.mode;
-    measured(x, s, window::measured_of(v, mode, s), p)
+    let k = p.measuring;
+    let m = window::measured_of(v, mode, s);
+    measures(x, m, tallied(m.out(), s.speed(), k), p)
 }
 
 // The test stays as it was.
-fn refused(r: Refusal, x: Test) -> Stepped
+pub(crate) fn refused(r: Refusal, x: Test) -> Stepped
     ensures { λ y. ⌜ y ≡ refused r x ⌝ }
 {
     Stepped {
@@ -113,19 +104,12 @@ fn refused(r: Refusal, x: Test) -> Stepped
     }
 }
 
-// Refused with place 0.
-pub(crate) fn refused_by(number: u8, x: Test) -> Stepped
-    ensures { λ r. ⌜ r ≡ refused (refusal number 0) x ⌝ }
-{
-    refused(Refusal { number, place: 0 }, x)
-}
-
 pub(crate) fn acted(act: Act, x: Test, s: Second) -> Stepped
     ensures { λ r. ⌜ r ≡ acted act x s ⌝ }
 {
     match act {
         Act::Turns(turn) => stepped(x, turn),
-        Act::Measures(p) => measured_with(x, s, p),
+        Act::Measures(p) => measured(x, s, p),
         Act::Refuses(r) => refused(r, x),
     }
 }

@@ -5,7 +5,7 @@ ghost use Rattle.loaded_test.specs.declared.Did.the-variants.{Voided};
 ghost use Rattle.loaded_test.specs.declared.Next.the-variants.{GoesOn, Rests, ModeTwo};
 ghost use Rattle.loaded_test.specs.declared.Stage.the-variants.{Settling, Rest};
 ghost use Rattle.loaded_test.specs.State.{emptied, noVoids, turn, nothing};
-ghost use Rattle.loaded_test.specs.Voids.{ended, modeEnded, voidCounted, voidFollowed, voided, stepFive};
+ghost use Rattle.loaded_test.specs.Voids.{ended, modeEnded, voidCounted, voidNext, voidFollowed, voided, stepFive};
 use crate::Did;
 use crate::Next;
 use crate::Progress;
@@ -129,17 +129,23 @@ fn rests(n: u8, mode: Mode, k: VoidCounts) -> Turn
 }
 
 // q = 2 comes before r = 3.
-fn void_followed(n: u8, k: VoidCounts, p: Progress) -> Turn
-    ensures { λ r. ⌜ r ≡ voidFollowed n k p ⌝ }
+fn void_next(twice: bool, third: bool, n: u8, k: VoidCounts, p: Progress) -> Turn
+    ensures { λ r. ⌜ r ≡ voidNext twice third n k p ⌝ }
 {
     let mode = p.mode;
-    if k.inconclusive == 2 {
+    if twice {
         return mode_ended(mode, Did::Voided(n), k, p);
     }
-    if k.voids == 3 {
+    if third {
         return ended(Did::Voided(n), Word::Incomplete, k, p);
     }
     rests(n, mode, k)
+}
+
+fn void_followed(n: u8, k: VoidCounts, p: Progress) -> Turn
+    ensures { λ r. ⌜ r ≡ voidFollowed n k p ⌝ }
+{
+    void_next(k.inconclusive == 2, k.voids == 3, n, k, p)
 }
 
 pub(crate) fn voided(n: u8, p: Progress) -> Turn

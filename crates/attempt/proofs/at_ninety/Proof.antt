@@ -1,4 +1,4 @@
--- `attempt::at_ninety` meets its contract. Assumes nothing.
+-- `at_ninety` meets its contract. Assumes nothing.
 use Rattle.attempt.specs.Ending.{atNinety}
 use Rattle.refusal.specs.Choice.{pick}
 use borrow.Author.Tests.{le-leb, lt-leb}

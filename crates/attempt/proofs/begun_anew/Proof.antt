@@ -1,4 +1,4 @@
--- `attempt::begun_anew` meets its contract. Assumes nothing.
+-- `begun_anew` meets its contract. Assumes nothing.
 use Rattle.attempt.specs.Settling.{begunAnew}
 use Rattle.refusal.specs.Choice.{pick}
 use Rattle.attempt.proofs.begun_anew.Statement.{statement}

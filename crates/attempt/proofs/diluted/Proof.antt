@@ -1,4 +1,4 @@
--- `attempt::diluted` meets its contract. Assumes nothing.
+-- `diluted` meets its contract. Assumes nothing.
 use borrow.Author.Needs.{needs}
 use Rattle.attempt.proofs.diluted.Statement.{statement}
 use Rattle.attempt.proofs.diluted.Tie as tie

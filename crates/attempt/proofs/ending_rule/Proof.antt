@@ -1,5 +1,5 @@
--- `attempt::ending_rule` meets its contract. Assumes nothing.
-use Rattle.attempt.specs.Ending.{endingRule}
+-- `ending_rule` meets its contract. Assumes nothing.
+use Rattle.attempt.specs.Ending.{earlyPass, endingRule}
 use Rattle.refusal.specs.Choice.{pick}
 use borrow.Author.Tests.{eq-eqb, ne-eqb}
 use borrow.Author.Needs.{needs}
@@ -7,18 +7,18 @@ use Rattle.attempt.proofs.ending_rule.Statement.{statement}
 use Rattle.attempt.proofs.ending_rule.Tie as tie
 
 returns : tie.Need-returns
-unfolding endingRule pick
+unfolding earlyPass endingRule pick
 returns c = simp (c .if1 .taken)
 
 at-ninety-requires : tie.Need-at-ninety-requires
 at-ninety-requires c κs = search needs
 
 returns-2 : tie.Need-returns-2
-unfolding endingRule pick
+unfolding earlyPass endingRule pick
 returns-2 c = simp (c .before .before .if1 .left, eq-eqb _ _ (c .before .if2 .taken)) (c .at-ninety .ensures)
 
 returns-3 : tie.Need-returns-3
-unfolding endingRule pick
+unfolding earlyPass endingRule pick
 returns-3 c = simp (c .before .if1 .left, ne-eqb _ _ (c .if2 .left))
 
 pub ending-rule-spec : {M : Type 1} → statement M

@@ -1,4 +1,4 @@
--- `attempt::grown` meets its contract. Assumes nothing.
+-- `grown` meets its contract. Assumes nothing.
 use borrow.Author.Needs.{needs}
 use Rattle.attempt.proofs.grown.Statement.{statement}
 use Rattle.attempt.proofs.grown.Tie as tie

@@ -1,4 +1,4 @@
--- `attempt::in_all` meets its contract. Assumes nothing.
+-- `in_all` meets its contract. Assumes nothing.
 use Rattle.attempt.specs.Counting.{inAll}
 use Rattle.refusal.specs.Choice.{pick}
 use borrow.Author.Needs.{needs}

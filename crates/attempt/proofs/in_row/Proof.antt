@@ -1,4 +1,4 @@
--- `attempt::in_row` meets its contract. Assumes nothing.
+-- `in_row` meets its contract. Assumes nothing.
 use Rattle.attempt.specs.Counting.{inRow}
 use Rattle.refusal.specs.Choice.{pick}
 use borrow.Author.Needs.{needs}

@@ -1,4 +1,4 @@
--- `attempt::ready` meets its contract. Assumes nothing.
+-- `ready` meets its contract. Assumes nothing.
 use Rattle.attempt.specs.Ready.{ready}
 use borrow.Author.Needs.{needs}
 use Rattle.attempt.proofs.ready.Statement.{statement}

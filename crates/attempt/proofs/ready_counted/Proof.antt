@@ -1,4 +1,4 @@
--- `attempt::ready_counted` meets its contract. Assumes nothing.
+-- `ready_counted` meets its contract. Assumes nothing.
 use borrow.Author.Needs.{needs}
 use Rattle.attempt.proofs.ready_counted.Statement.{statement}
 use Rattle.attempt.proofs.ready_counted.Tie as tie

@@ -1,4 +1,4 @@
--- `attempt::screened` meets its contract. Assumes nothing.
+-- `screened` meets its contract. Assumes nothing.
 use Rattle.attempt.specs.Screening.{screened}
 use Rattle.refusal.specs.Choice.{pick}
 use borrow.Author.Needs.{needs}

@@ -1,4 +1,4 @@
--- `attempt::second_one` meets its contract. Assumes nothing.
+-- `second_one` meets its contract. Assumes nothing.
 use Rattle.attempt.specs.Settling.{secondOne}
 use mathlib.Core.Path.{_∙_}
 use borrow.Author.Needs.{needs}

@@ -1,4 +1,4 @@
--- `attempt::second_two` meets its contract. Assumes nothing.
+-- `second_two` meets its contract. Assumes nothing.
 use Rattle.attempt.specs.Settling.{secondTwo}
 use mathlib.Core.Path.{_∙_}
 use borrow.Author.Needs.{needs}

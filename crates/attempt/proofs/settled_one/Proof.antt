@@ -1,4 +1,4 @@
--- `attempt::settled_one` meets its contract. Assumes nothing.
+-- `settled_one` meets its contract. Assumes nothing.
 use Rattle.attempt.specs.Settling.{settledOne}
 use Rattle.refusal.specs.Choice.{pick}
 use mathlib.Core.Path.{_∙_}

@@ -1,4 +1,4 @@
--- `attempt::settled_two` meets its contract. Assumes nothing.
+-- `settled_two` meets its contract. Assumes nothing.
 use Rattle.attempt.specs.Settling.{settledTwo}
 use Rattle.refusal.specs.Choice.{pick}
 use borrow.Author.Needs.{needs}

@@ -1,4 +1,4 @@
--- `attempt::speed_at` meets its contract. Assumes nothing.
+-- `speed_at` meets its contract. Assumes nothing.
 use Rattle.refusal.specs.Choice.{pick}
 use Rattle.attempt.proofs.speed_at.Statement.{statement}
 use Rattle.attempt.proofs.speed_at.Tie as tie

@@ -1,4 +1,4 @@
--- `attempt::tallied` meets its contract. Assumes nothing.
+-- `tallied` meets its contract. Assumes nothing.
 use Rattle.attempt.specs.Measuring.{tallied}
 use borrow.Author.Needs.{needs}
 use Rattle.attempt.proofs.tallied.Statement.{statement}

@@ -1,4 +1,4 @@
--- `attempt::waits` meets its contract. Assumes nothing.
+-- `waits` meets its contract. Assumes nothing.
 use borrow.Author.Needs.{needs}
 use Rattle.attempt.proofs.waits.Statement.{statement}
 use Rattle.attempt.proofs.waits.Tie as tie

@@ -1,4 +1,4 @@
--- `attempt::watched` meets its contract. Assumes nothing.
+-- `watched` meets its contract. Assumes nothing.
 use Rattle.attempt.specs.Settling.{watched}
 use Rattle.refusal.specs.Choice.{pick}
 use mathlib.Core.Path.{_∙_}

@@ -1,4 +1,4 @@
--- `attempt::window_counted` meets its contract. Assumes nothing.
+-- `window_counted` meets its contract. Assumes nothing.
 use Rattle.attempt.specs.Measuring.{windowCounted}
 use borrow.Author.Needs.{needs}
 use Rattle.attempt.proofs.window_counted.Statement.{statement}

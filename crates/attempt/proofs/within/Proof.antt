@@ -1,4 +1,4 @@
--- `attempt::within` meets its contract. Assumes nothing.
+-- `within` meets its contract. Assumes nothing.
 use borrow.Author.Needs.{needs}
 use Rattle.attempt.proofs.within.Statement.{statement}
 use Rattle.attempt.proofs.within.Tie as tie

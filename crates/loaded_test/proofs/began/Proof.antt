@@ -1,4 +1,4 @@
--- `loaded_test::began` meets its contract. Assumes nothing.
+-- `began` meets its contract. Assumes nothing.
 use mathlib.Core.Path.{_∙_}
 use borrow.Author.Needs.{needs}
 use Rattle.loaded_test.proofs.began.Statement.{statement}

@@ -1,4 +1,4 @@
--- `loaded_test::begin` meets its contract. Assumes nothing.
+-- `begin` meets its contract. Assumes nothing.
 use Rattle.loaded_test.specs.Steps.{begin, begunBy}
 use mathlib.Core.Path.{_∙_}
 use borrow.Author.Needs.{needs}

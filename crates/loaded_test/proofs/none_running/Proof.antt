@@ -1,4 +1,4 @@
--- `loaded_test::none_running` meets its contract. Assumes nothing.
+-- `none_running` meets its contract. Assumes nothing.
 use mathlib.Core.Path.{_∙_}
 use borrow.Author.Needs.{needs}
 use Rattle.loaded_test.proofs.none_running.Statement.{statement}

@@ -1,4 +1,4 @@
--- `loaded_test::second` meets its contract. Assumes nothing.
+-- `second` meets its contract. Assumes nothing.
 use Rattle.loaded_test.specs.Steps.{second}
 use mathlib.Core.Path.{_∙_}
 use borrow.Author.Needs.{needs}

@@ -1,4 +1,4 @@
--- `loaded_test::stop` meets its contract. Assumes nothing.
+-- `stop` meets its contract. Assumes nothing.
 use Rattle.loaded_test.specs.Steps.{stop}
 use Rattle.refusal.specs.Choice.{pick}
 use mathlib.Core.Path.{_∙_}
@@ -9,12 +9,12 @@ use Rattle.loaded_test.proofs.stop.Tie as tie
 has-ended-requires : tie.Need-has-ended-requires
 has-ended-requires c κs = search needs
 
-refused-by-requires : tie.Need-refused-by-requires
-refused-by-requires c κs = search needs
+refused-requires : tie.Need-refused-requires
+refused-requires c κs = search needs
 
 returns : tie.Need-returns
 unfolding stop pick
-returns c = simp (← c .before .before .has-ended .ensures, c .before .if1 .taken) (c .refused-by .ensures)
+returns c = simp (← c .before .before .has-ended .ensures, c .before .if1 .taken) (c .refused .ensures)
 
 cause-fit-requires : tie.Need-cause-fit-requires
 cause-fit-requires c κs = search needs
@@ -32,24 +32,24 @@ returns-2 : tie.Need-returns-2
 unfolding stop pick
 returns-2 c = simp (← c .before .before .before .before .before .before .has-ended .ensures, c .before .before .before .before .before .if1 .left, ← c .before .before .before .before .cause-fit .ensures, c .before .before .before .if2 .taken) (c .stepped .ensures ∙ simp (c .before .stop-taken .ensures, c .before .before .is-resting .ensures))
 
-refused-by-requires-2 : tie.Need-refused-by-requires-2
-refused-by-requires-2 c κs = search needs
+refused-requires-2 : tie.Need-refused-requires-2
+refused-requires-2 c κs = search needs
 
 returns-3 : tie.Need-returns-3
 unfolding stop pick
-returns-3 c = simp (← c .before .before .before .before .has-ended .ensures, c .before .before .before .if1 .left, ← c .before .before .cause-fit .ensures, c .before .if2 .left) (c .refused-by2 .ensures)
+returns-3 c = simp (← c .before .before .before .before .has-ended .ensures, c .before .before .before .if1 .left, ← c .before .before .cause-fit .ensures, c .before .if2 .left) (c .refused2 .ensures)
 
 pub stop-spec : {M : Type 1} → statement M
 stop-spec =
     tie.close
     (tie.spec
     has-ended-requires
-    refused-by-requires
+    refused-requires
     returns
     cause-fit-requires
     is-resting-requires
     stop-taken-requires
     stepped-requires
     returns-2
-    refused-by-requires-2
+    refused-requires-2
     returns-3)

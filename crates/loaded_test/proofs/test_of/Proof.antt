@@ -1,4 +1,4 @@
--- `loaded_test::test_of` meets its contract. Assumes nothing.
+-- `test_of` meets its contract. Assumes nothing.
 use borrow.Author.Needs.{needs}
 use Rattle.loaded_test.proofs.test_of.Statement.{statement}
 use Rattle.loaded_test.proofs.test_of.Tie as tie

@@ -1,4 +1,4 @@
--- `loaded_test::measuring::closed_mode` meets its contract. Assumes nothing.
+-- `measuring::closed_mode` meets its contract. Assumes nothing.
 use Rattle.loaded_test.specs.Measuring.{closed}
 use borrow.Author.Needs.{needs}
 use Rattle.loaded_test.proofs.measuring.closed_mode.Statement.{statement}

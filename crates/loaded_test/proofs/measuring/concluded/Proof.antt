@@ -1,4 +1,4 @@
--- `loaded_test::measuring::concluded` meets its contract. Assumes nothing.
+-- `measuring::concluded` meets its contract. Assumes nothing.
 use Rattle.loaded_test.specs.Measuring.{concluded}
 use mathlib.Core.Path.{_∙_}
 use borrow.Author.Needs.{needs}

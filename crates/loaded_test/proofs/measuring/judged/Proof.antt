@@ -1,4 +1,4 @@
--- `loaded_test::measuring::judged` meets its contract. Assumes nothing.
+-- `measuring::judged` meets its contract. Assumes nothing.
 use Rattle.loaded_test.specs.Measuring.{judged}
 use mathlib.Core.Path.{_∙_}
 use borrow.Author.Needs.{needs}

@@ -1,4 +1,4 @@
--- `loaded_test::measuring::measures` meets its contract. Assumes nothing.
+-- `measuring::measures` meets its contract. Assumes nothing.
 use Rattle.loaded_test.specs.Measuring.{measures}
 use Rattle.refusal.specs.Choice.{pick}
 use mathlib.Core.Path.{_∙_}

@@ -1,4 +1,4 @@
--- `loaded_test::measuring::pushed` meets its contract. Assumes nothing.
+-- `measuring::pushed` meets its contract. Assumes nothing.
 use Rattle.loaded_test.proofs.Entries.{taken-entries}
 use Rattle.window.specs.declared.Measured.{Measured}
 use lib.ListN.{length}

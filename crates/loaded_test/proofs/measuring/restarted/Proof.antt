@@ -1,4 +1,4 @@
--- `loaded_test::measuring::restarted` meets its contract. Assumes nothing.
+-- `measuring::restarted` meets its contract. Assumes nothing.
 use mathlib.Core.Path.{_∙_}
 use borrow.Author.Needs.{needs}
 use Rattle.loaded_test.proofs.measuring.restarted.Statement.{statement}

@@ -1,4 +1,4 @@
--- `loaded_test::measuring::window_judged` meets its contract. Assumes nothing.
+-- `measuring::window_judged` meets its contract. Assumes nothing.
 use Rattle.loaded_test.specs.Measuring.{windowJudged}
 use Rattle.refusal.specs.Choice.{pick}
 use mathlib.Core.Path.{_∙_}

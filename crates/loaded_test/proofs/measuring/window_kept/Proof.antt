@@ -1,4 +1,4 @@
--- `loaded_test::measuring::window_kept` meets its contract. Assumes nothing.
+-- `measuring::window_kept` meets its contract. Assumes nothing.
 use Rattle.loaded_test.specs.Measuring.{windowKept}
 use Rattle.refusal.specs.Choice.{pick}
 use Rattle.loaded_test.proofs.measuring.window_kept.Statement.{statement}

@@ -1,4 +1,4 @@
--- `loaded_test::settling::closed_one` meets its contract. Assumes nothing.
+-- `settling::closed_one` meets its contract. Assumes nothing.
 use Rattle.loaded_test.specs.Settling.{closedOne}
 use borrow.Author.Needs.{needs}
 use Rattle.loaded_test.proofs.settling.closed_one.Statement.{statement}

@@ -1,4 +1,4 @@
--- `loaded_test::settling::closed_two` meets its contract. Assumes nothing.
+-- `settling::closed_two` meets its contract. Assumes nothing.
 use Rattle.loaded_test.specs.Settling.{closedTwo}
 use borrow.Author.Needs.{needs}
 use Rattle.loaded_test.proofs.settling.closed_two.Statement.{statement}

@@ -1,4 +1,4 @@
--- `loaded_test::settling::rest_count` meets its contract. Assumes nothing.
+-- `settling::rest_count` meets its contract. Assumes nothing.
 use Rattle.loaded_test.specs.Rest.{restCount}
 use mathlib.Core.Path.{_∙_}
 use borrow.Author.Needs.{needs}

@@ -1,4 +1,4 @@
--- `loaded_test::settling::rest_ended` meets its contract. Assumes nothing.
+-- `settling::rest_ended` meets its contract. Assumes nothing.
 use borrow.Author.Needs.{needs}
 use Rattle.loaded_test.proofs.settling.rest_ended.Statement.{statement}
 use Rattle.loaded_test.proofs.settling.rest_ended.Tie as tie

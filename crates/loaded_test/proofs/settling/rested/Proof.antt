@@ -1,4 +1,4 @@
--- `loaded_test::settling::rested` meets its contract. Assumes nothing.
+-- `settling::rested` meets its contract. Assumes nothing.
 use Rattle.loaded_test.specs.Rest.{rested}
 use Rattle.refusal.specs.Choice.{pick}
 use borrow.Author.Tests.{eq-eqb, ne-eqb}

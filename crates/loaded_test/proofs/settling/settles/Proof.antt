@@ -1,4 +1,4 @@
--- `loaded_test::settling::settles` meets its contract. Assumes nothing.
+-- `settling::settles` meets its contract. Assumes nothing.
 use Rattle.loaded_test.specs.Settling.{settles}
 use borrow.Author.Needs.{needs}
 use Rattle.loaded_test.proofs.settling.settles.Statement.{statement}

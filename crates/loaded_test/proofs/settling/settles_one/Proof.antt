@@ -1,4 +1,4 @@
--- `loaded_test::settling::settles_one` meets its contract. Assumes nothing.
+-- `settling::settles_one` meets its contract. Assumes nothing.
 use Rattle.loaded_test.specs.Settling.{settlesIn}
 use mathlib.Core.Path.{_∙_}
 use borrow.Author.Needs.{needs}

@@ -1,4 +1,4 @@
--- `loaded_test::settling::settling_left` meets its contract. Assumes nothing.
+-- `settling::settling_left` meets its contract. Assumes nothing.
 use Rattle.loaded_test.specs.Settling.{settlingLeft}
 use Rattle.refusal.specs.Choice.{pick}
 use mathlib.Core.Path.{_∙_}

@@ -1,4 +1,4 @@
--- `loaded_test::steps::act_at` meets its contract. Assumes nothing.
+-- `steps::act_at` meets its contract. Assumes nothing.
 use Rattle.loaded_test.specs.Steps.{actAt}
 use mathlib.Core.Path.{_∙_}
 use borrow.Author.Needs.{needs}

@@ -1,4 +1,4 @@
--- `loaded_test::steps::acted` meets its contract. Assumes nothing.
+-- `steps::acted` meets its contract. Assumes nothing.
 use Rattle.loaded_test.specs.Steps.{acted}
 use borrow.Author.Needs.{needs}
 use Rattle.loaded_test.proofs.steps.acted.Statement.{statement}
@@ -13,8 +13,8 @@ stepped-requires c κs = search needs
 enum-known-act-2 : tie.Need-enum-known-act-2
 enum-known-act-2 c = search needs
 
-measured-with-requires : tie.Need-measured-with-requires
-measured-with-requires c κs = search needs
+measured-requires : tie.Need-measured-requires
+measured-requires c κs = search needs
 
 enum-known-act-3 : tie.Need-enum-known-act-3
 enum-known-act-3 c = search needs
@@ -27,7 +27,8 @@ unfolding acted
 returns c = simp (c .before .before .act .given .1) (c .stepped .ensures)
 
 returns-2 : tie.Need-returns-2
-returns-2 c = simp (c .before .before .act2 .given .1) (c .measured-with .ensures)
+unfolding acted
+returns-2 c = simp (c .before .before .act2 .given .1) (c .measured .ensures)
 
 returns-3 : tie.Need-returns-3
 unfolding acted
@@ -40,7 +41,7 @@ acted-spec =
     enum-known-act
     stepped-requires
     enum-known-act-2
-    measured-with-requires
+    measured-requires
     enum-known-act-3
     refused-requires
     returns

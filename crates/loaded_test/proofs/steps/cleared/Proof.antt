@@ -1,4 +1,4 @@
--- `loaded_test::steps::cleared` meets its contract. Assumes nothing.
+-- `steps::cleared` meets its contract. Assumes nothing.
 use Rattle.loaded_test.specs.Steps.{inAttempt}
 use Rattle.refusal.specs.Choice.{pick}
 use borrow.Author.Needs.{needs}

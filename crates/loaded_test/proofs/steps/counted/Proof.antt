@@ -1,4 +1,4 @@
--- `loaded_test::steps::counted` meets its contract. Assumes nothing.
+-- `steps::counted` meets its contract. Assumes nothing.
 use borrow.Author.Needs.{needs}
 use Rattle.loaded_test.proofs.steps.counted.Statement.{statement}
 use Rattle.loaded_test.proofs.steps.counted.Tie as tie

@@ -1,4 +1,4 @@
--- `loaded_test::steps::has_ended` meets its contract. Assumes nothing.
+-- `steps::has_ended` meets its contract. Assumes nothing.
 use Rattle.loaded_test.specs.Going.{hasEnded}
 use borrow.Author.Needs.{needs}
 use Rattle.loaded_test.proofs.steps.has_ended.Statement.{statement}

@@ -1,4 +1,4 @@
--- `loaded_test::steps::in_attempt` meets its contract. Assumes nothing.
+-- `steps::in_attempt` meets its contract. Assumes nothing.
 use Rattle.loaded_test.specs.Steps.{inAttempt}
 use borrow.Author.Needs.{needs}
 use Rattle.loaded_test.proofs.steps.in_attempt.Statement.{statement}

@@ -1,4 +1,4 @@
--- `loaded_test::steps::in_rest` meets its contract. Assumes nothing.
+-- `steps::in_rest` meets its contract. Assumes nothing.
 use borrow.Author.Needs.{needs}
 use Rattle.loaded_test.proofs.steps.in_rest.Statement.{statement}
 use Rattle.loaded_test.proofs.steps.in_rest.Tie as tie

@@ -1,4 +1,4 @@
--- `loaded_test::steps::is_resting` meets its contract. Assumes nothing.
+-- `steps::is_resting` meets its contract. Assumes nothing.
 use Rattle.loaded_test.specs.Steps.{isResting}
 use borrow.Author.Needs.{needs}
 use Rattle.loaded_test.proofs.steps.is_resting.Statement.{statement}

@@ -1,4 +1,4 @@
--- `loaded_test::steps::stop_taken` meets its contract. Assumes nothing.
+-- `steps::stop_taken` meets its contract. Assumes nothing.
 use Rattle.loaded_test.specs.Steps.{stopTaken}
 use Rattle.refusal.specs.Choice.{pick}
 use borrow.Author.Needs.{needs}

@@ -1,4 +1,4 @@
--- `loaded_test::voids::mode_ended` meets its contract. Assumes nothing.
+-- `voids::mode_ended` meets its contract. Assumes nothing.
 use Rattle.loaded_test.specs.Voids.{modeEnded}
 use borrow.Author.Needs.{needs}
 use Rattle.loaded_test.proofs.voids.mode_ended.Statement.{statement}

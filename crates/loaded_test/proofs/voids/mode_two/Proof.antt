@@ -1,4 +1,4 @@
--- `loaded_test::voids::mode_two` meets its contract. Assumes nothing.
+-- `voids::mode_two` meets its contract. Assumes nothing.
 use borrow.Author.Needs.{needs}
 use Rattle.loaded_test.proofs.voids.mode_two.Statement.{statement}
 use Rattle.loaded_test.proofs.voids.mode_two.Tie as tie

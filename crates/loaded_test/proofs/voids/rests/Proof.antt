@@ -1,4 +1,4 @@
--- `loaded_test::voids::rests` meets its contract. Assumes nothing.
+-- `voids::rests` meets its contract. Assumes nothing.
 use borrow.Author.Needs.{needs}
 use Rattle.loaded_test.proofs.voids.rests.Statement.{statement}
 use Rattle.loaded_test.proofs.voids.rests.Tie as tie

@@ -1,4 +1,4 @@
--- `loaded_test::voids::step_five` meets its contract. Assumes nothing.
+-- `voids::step_five` meets its contract. Assumes nothing.
 use Rattle.loaded_test.specs.Voids.{stepFive}
 use Rattle.refusal.specs.Choice.{pick}
 use borrow.Author.Tests.{eq-eqb, ne-eqb}

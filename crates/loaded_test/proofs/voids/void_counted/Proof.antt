@@ -1,4 +1,4 @@
--- `loaded_test::voids::void_counted` meets its contract. Assumes nothing.
+-- `voids::void_counted` meets its contract. Assumes nothing.
 use Rattle.loaded_test.specs.Voids.{voidCounted}
 use borrow.Author.Needs.{needs}
 use Rattle.loaded_test.proofs.voids.void_counted.Statement.{statement}

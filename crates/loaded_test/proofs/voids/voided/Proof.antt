@@ -1,4 +1,4 @@
--- `loaded_test::voids::voided` meets its contract. Assumes nothing.
+-- `voids::voided` meets its contract. Assumes nothing.
 use Rattle.loaded_test.specs.Voids.{voided}
 use mathlib.Core.Path.{_∙_}
 use borrow.Author.Needs.{needs}

@@ -1,0 +1,210 @@
+-- The pass claim, lifted from one test's log to the accepted events and their own readings. Assumes nothing.
+use Prim.Native.Nat.{ℕ, suc, _+_, _≤_, _<_, min}
+use native.Mathlib.Omega.{arith}
+use mathlib.Core.Bool.{Bool, true, false, true≢false, false≢true, not, _&&_, _||_}
+use mathlib.Core.Path.{_≡_, refl, ap, sym, _∙_, subst, subst⁻¹}
+use mathlib.Core.Logic.{_↔_}
+use mathlib.Core.List.{List, [], _∷_}
+use mathlib.Core.Option.{Option, none, some}
+use borrow.Author.Tests.{eqb-true, eq-eqb, not-false, leb-true, le-ltb}
+use lib.Dec.{leb, ltb, eqb}
+use Rattle.refusal.specs.declared.Refusal.{Refusal}
+use Rattle.reading.specs.declared.Readings.{Readings}
+use Rattle.reading.specs.declared.Second.{Second as Units}
+use Rattle.reading.specs.declared.Converted.{Converted}
+use Rattle.reading.specs.declared.Converted.the-variants as converted
+use Rattle.reading.specs.Units.{secondOf}
+use Rattle.correction.specs.Humidity.{saturationFit}
+use Rattle.vehicle.specs.declared.Settings.{Settings}
+use Rattle.vehicle.specs.declared.Vehicle.{Vehicle}
+use Rattle.vehicle.specs.declared.Mode.{Mode}
+use Rattle.vehicle.specs.declared.Mode.the-variants.{One, Two}
+use Rattle.vehicle.specs.Settings.{unfitPlace}
+use Rattle.vehicle.specs.Checked.{vehicleOf}
+use Rattle.loaded_test.specs.declared.Verdict.{Verdict}
+use Rattle.loaded_test.specs.declared.Did.{Did}
+use Rattle.loaded_test.specs.declared.Next.{Next}
+use Rattle.loaded_test.specs.declared.Next.the-variants.{GoesOn, Rests, RestEnded, ModeTwo, Ends}
+use Rattle.loaded_test.specs.declared.Answer.{Answer as TestAnswer}
+use Rattle.loaded_test.specs.declared.Answer.the-variants as test-answer
+use Rattle.loaded_test.specs.declared.Test.{Test}
+use Rattle.loaded_test.specs.Log.{Input, aSecond, aStop, Entry, step, replay, logged, logOf}
+use Rattle.loaded_test.specs.Claim.{modeAfter, modeIn, Measures, none as measuresNone, more as measuresMore, Earned, PassClaim}
+use Rattle.loaded_test.proofs.Passing.{passes}
+use Rattle.bench.specs.declared.Answer.{Answer}
+use Rattle.bench.specs.declared.Answer.the-variants as answer
+use Rattle.bench.specs.declared.Bench.{Bench}
+use Rattle.locks.specs.declared.Event.{Event}
+use Rattle.locks.specs.declared.Event.the-variants.{
+  PowerOn,
+  ClockSetting,
+  WarmUp,
+  Calibration,
+  Try,
+  AuthorityLock,
+  AuthorityUnlock,
+  Upload,
+  Start,
+  Second,
+  Stop,
+}
+use Rattle.locks.specs.Events.{kindOf, clockOf}
+use Rattle.locks.specs.Accepted.{Accepted, accepted, since, latestOf}
+use Rattle.locks.specs.Locks.{verdictsIn, unsentIn, lockOf}
+use Rattle.bench.specs.History.{History, freshHistory, runs}
+use Rattle.bench.specs.Causes.{
+  Cause,
+  settingAt,
+  saturationBad,
+  causeBad,
+  automaticOf,
+  automaticIn,
+  readingAt,
+  lockAt,
+  causes,
+  firstCause,
+}
+use Rattle.bench.specs.Telling.{
+  secondInput,
+  inputOf,
+  verdictNext,
+  verdictTold,
+  endedBy,
+  stepTaken,
+  outcomeOf,
+  acceptance,
+  added,
+  judged,
+  tell,
+  historyAfter,
+  historyAnswers,
+}
+use Rattle.bench.specs.Passes.{
+  Since,
+  started,
+  seconded,
+  stopped,
+  Reads,
+  noMore,
+  before,
+  automatic,
+  pass,
+  isModeTwo,
+  modeTwoBegan,
+  PassEarned,
+}
+use Rattle.bench.specs.Demand.{
+  benchAfter,
+  benchAnswers,
+  answerAfter,
+  historyOf,
+  isAccepted,
+  NoneStand,
+  Unlocked,
+  Gives,
+  Demand3,
+  Bounded,
+}
+use Rattle.bench.proofs.Sound.{Follows}
+
+-- Mode 2 exactly if it began.
+mode-after : (next : Next) (m : Mode) (b : Bool) → (m ≡ Two) ↔ (b ≡ true) → (modeAfter next m ≡ Two) ↔ (isModeTwo next || b ≡ true)
+unfolding modeAfter isModeTwo
+mode-after GoesOn m b h = h
+mode-after Rests m b h = h
+mode-after RestEnded m b h = h
+mode-after ModeTwo m b h = ((λ _. refl), (λ _. refl))
+mode-after (Ends x) m b h = h
+
+mode-two : (log : List Entry) → (modeIn log ≡ Two) ↔ (modeTwoBegan log ≡ true)
+unfolding modeIn modeTwoBegan
+mode-two [] = ((λ h. let z : _≡_ {A = ℕ} 0 1 = cc in absurd (omega arith)), (λ h. absurd (false≢true h)))
+mode-two (e ∷ log) = mode-after (e .next) (modeIn log) (modeTwoBegan log) (mode-two log)
+
+aSecond-same : (s s′ : Units) → aSecond s ≡ aSecond s′ → s ≡ s′
+aSecond-same s s′ h = cc
+
+stop-not : (n : ℕ) (s : Units) → aStop n ≡ aSecond s → ⊥
+stop-not n s h = let z : _≡_ {A = ℕ} 0 1 = cc in omega arith
+
+-- Measured seconds of the log are the newest accepted events.
+reads :
+    (settings : Settings) (p : ℕ) (ss : List Units) (l : List Accepted) (log : List Entry) →
+    Measures ss log →
+    Since settings p l log →
+    Reads (automatic settings) ss l
+reads settings p [] l log m since = noMore
+reads settings p (s ∷ ss) l log (measuresMore i d n m) (seconded {s = s′} r j since) =
+    before (r ∙ ap converted.Fit (aSecond-same s′ s (sym j ∙ i))) (reads settings p ss _ _ m since)
+reads settings p (s ∷ ss) l log (measuresMore i d n m) (stopped {cause = c} j since) = absurd (stop-not c s (sym j ∙ i))
+
+-- A second's input comes from its own readings.
+second-input :
+    (x : Converted) (s : Units) → secondInput x ≡ some (aSecond s) → x ≡ converted.Fit s
+unfolding secondInput
+second-input (converted.Fit y) s h = cc
+second-input (converted.Refused r) s h = let z : _≡_ {A = ℕ} 0 1 = cc in absurd (omega arith)
+
+input-not : (i : Input) → none ≡ some i → ⊥
+input-not i h = let z : _≡_ {A = ℕ} 0 1 = cc in omega arith
+
+input-second : (n : ℕ) (s : Units) → some (aStop n) ≡ some (aSecond s) → ⊥
+input-second n s h = let z : _≡_ {A = ℕ} 0 1 = cc in omega arith
+
+-- An event that gives a test a second is a second with those units.
+newest-reads :
+    (e : Event) (verdict : Option Verdict) (auto : Bool) (s : Units) (ss : List Units) (l : List Accepted) →
+    inputOf auto e ≡ some (aSecond s) →
+    Reads auto ss l →
+    Reads auto (s ∷ ss) (accepted e verdict ∷ l)
+newest-reads (PowerOn clock) verdict auto s ss l h r = absurd (input-not (aSecond s) h)
+newest-reads (ClockSetting clock new) verdict auto s ss l h r = absurd (input-not (aSecond s) h)
+newest-reads (WarmUp clock) verdict auto s ss l h r = absurd (input-not (aSecond s) h)
+newest-reads (Calibration clock outcome) verdict auto s ss l h r = absurd (input-not (aSecond s) h)
+newest-reads (Try clock outcome) verdict auto s ss l h r = absurd (input-not (aSecond s) h)
+newest-reads (AuthorityLock clock) verdict auto s ss l h r = absurd (input-not (aSecond s) h)
+newest-reads (AuthorityUnlock clock) verdict auto s ss l h r = absurd (input-not (aSecond s) h)
+newest-reads (Upload clock) verdict auto s ss l h r = absurd (input-not (aSecond s) h)
+newest-reads (Start clock settings p) verdict auto s ss l h r = absurd (input-not (aSecond s) h)
+newest-reads (Second clock readings) verdict auto s ss l h r = before (second-input (secondOf readings auto) s h) r
+newest-reads (Stop clock cause) verdict auto s ss l h r = absurd (input-second cause s h)
+
+-- A pass told by a test that follows the accepted events is earned by them.
+pub earned-pass :
+    (l : List Accepted) (e : Event) (test : Test) (i : Input) (did : Did) (t passing failing : ℕ) →
+    Follows l test →
+    inputOf (automaticIn l) e ≡ some i →
+    step test i .answer ≡ test-answer.Told did (Ends (pass t passing failing)) →
+    PassEarned l e t passing failing
+unfolding logOf logged
+earned-pass l e test i did t passing failing f given told = record {
+  settings = f .settings;
+  saturation = f .saturation;
+  fit = f .fit;
+  inputs = f .inputs;
+  since = f .since;
+  entry = entry;
+  told = told′;
+  ends = refl;
+  mode = mode-two (logOf v (f .inputs));
+  earned = earned;
+  seconds =
+      newest-reads e (some (pass t passing failing)) (automatic (f .settings)) (earned .last) (earned .before) l
+      (subst (λ b. inputOf b e ≡ some (aSecond (earned .last))) (f .gearbox) (given ∙ ap some (earned .isSecond)))
+      (reads (f .settings) (f .saturation) (earned .before) l (logOf v (f .inputs)) (earned .measured) (f .since));
+}
+  where
+    v : Vehicle
+    v = vehicleOf (f .settings) (f .saturation)
+
+    entry : Entry
+    entry = record { input = i; did = did; next = Ends (pass t passing failing) }
+
+    told′ : step (replay v (f .inputs)) i .answer ≡ test-answer.Told did (Ends (pass t passing failing))
+    told′ = subst (λ y. step y i .answer ≡ test-answer.Told did (Ends (pass t passing failing))) (f .replayed) told
+
+    newest : logOf v (i ∷ f .inputs) ≡ entry ∷ logOf v (f .inputs)
+    newest = rw told′
+
+    earned : Earned v entry (logOf v (f .inputs)) t passing failing
+    earned = subst (PassClaim v) newest (passes v (i ∷ f .inputs)) t passing failing refl

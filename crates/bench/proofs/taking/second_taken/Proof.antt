@@ -1,0 +1,40 @@
+-- `bench::taking::second_taken` meets its contract. Assumes nothing.
+use Rattle.bench.specs.Stepping.{secondTaken}
+use borrow.Author.Needs.{needs}
+use Rattle.bench.proofs.taking.second_taken.Statement.{statement}
+use Rattle.bench.proofs.taking.second_taken.Tie as tie
+
+second-of-requires : tie.Need-second-of-requires
+second-of-requires c κs = search needs
+
+enum-known-s : tie.Need-enum-known-s
+enum-known-s c = search needs
+
+second-fit-requires : tie.Need-second-fit-requires
+second-fit-requires c κs = search needs
+
+enum-known-r : tie.Need-enum-known-r
+enum-known-r c = search needs
+
+refused-requires : tie.Need-refused-requires
+refused-requires c κs = search needs
+
+returns : tie.Need-returns
+unfolding secondTaken
+returns c = simp (← c .before .before .before .before .second-of .ensures, c .before .before .s .given .1) (c .second-fit .ensures)
+
+returns-2 : tie.Need-returns-2
+unfolding secondTaken
+returns-2 c = simp (← c .before .before .before .before .second-of .ensures, c .before .before .r .given .1) (c .refused .ensures)
+
+pub second-taken-spec : {M : Type 1} → statement M
+second-taken-spec =
+    tie.close
+    (tie.spec
+    second-of-requires
+    enum-known-s
+    second-fit-requires
+    enum-known-r
+    refused-requires
+    returns
+    returns-2)

@@ -1,0 +1,107 @@
+-- The rows of document 01's refusal table that can refuse an event, in their order: "Events: 11, 12 or 13, then 4, 5, 15 or 8, then 14."
+-- They judge by V, U and the history alone.
+use Prim.Native.Nat.{ℕ}
+use mathlib.Core.Bool.{Bool, true, false, not, _&&_, _||_}
+use mathlib.Core.List.{List, [], _∷_}
+use mathlib.Core.Option.{Option, none, some}
+use lib.Dec.{ltb, leb, eqb}
+use Rattle.refusal.specs.Choice.{pick}
+use Rattle.refusal.specs.Table.{
+  clockEarlier,
+  testRunning,
+  noTest,
+  settingUnfit,
+  saturationUnfit,
+  causeUnfit,
+  readingUnfit,
+  startLocked,
+}
+use Rattle.refusal.specs.declared.Refusal.{Refusal}
+use Rattle.reading.specs.declared.Readings.{Readings}
+use Rattle.reading.specs.declared.Converted.{Converted}
+use Rattle.reading.specs.declared.Converted.the-variants as converted
+use Rattle.reading.specs.Units.{secondOf}
+use Rattle.correction.specs.Humidity.{saturationFit}
+use Rattle.vehicle.specs.declared.Settings.{Settings}
+use Rattle.vehicle.specs.Settings.{unfitPlace}
+use Rattle.loaded_test.specs.Steps.{causeFit}
+use Rattle.locks.specs.declared.Event.{Event}
+use Rattle.locks.specs.Events.{kindOf, clockOf, startIn, readingsIn, causeIn, Starting}
+use Rattle.locks.specs.Accepted.{Accepted, latestOf}
+use Rattle.locks.specs.Locks.{lockOf}
+use Rattle.bench.specs.History.{History, runs}
+
+-- A row: whether its cause stands, and what it returns.
+pub record Cause : Type 0 where
+  pub stands : Bool
+  pub refusal : Refusal
+
+abbrev pub cause : Bool → Refusal → Cause
+cause stands refusal = record { stands = stands; refusal = refusal }
+
+-- A row that returns a place, and stands where there is one.
+abbrev pub causeAt : ℕ → (ℕ → Refusal) → Cause
+causeAt place row = cause (not (eqb place 0)) (row place)
+
+-- "test running (all but power-on, second, stop)"
+abbrev pub outsideTest : ℕ → Bool
+outsideTest kind = leb 2 kind && leb kind 9
+
+-- "second or stop"
+abbrev pub insideTest : ℕ → Bool
+insideTest kind = leb 10 kind
+
+-- "setting out of range": the first unfit setting of a start, 1 to 7; 0 where there is none.
+unfoldable pub settingAt : Option Starting → ℕ
+settingAt none = 0
+settingAt (some s) = unfitPlace (s .settings)
+
+-- "saturation value unfit", in a start.
+unfoldable pub saturationBad : Option Starting → Bool
+saturationBad none = false
+saturationBad (some s) = not (saturationFit (s .saturation))
+
+-- "stop cause .. unfit"
+unfoldable pub causeBad : Option ℕ → Bool
+causeBad none = false
+causeBad (some n) = not (causeFit n)
+
+-- The gearbox (2 automatic) is that of the latest start.
+unfoldable pub automaticOf : Option Starting → Bool
+automaticOf none = false
+automaticOf (some s) = eqb (s .settings .gearbox) 2
+
+abbrev pub automaticIn : List Accepted → Bool
+automaticIn l = automaticOf (latestOf startIn l)
+
+-- "reading unfit": the code of the first unfit reading of a second; 0 where there is none.
+unfoldable pub codeOf : Converted → ℕ
+codeOf (converted.Fit s) = 0
+codeOf (converted.Refused r) = r .place
+
+unfoldable pub readingAt : Bool → Option Readings → ℕ
+readingAt automatic none = 0
+readingAt automatic (some r) = codeOf (secondOf r automatic)
+
+-- "start locked": the number of the first standing lock; 0 where there is none.
+unfoldable pub lockAt : ℕ → ℕ → ℕ → List Accepted → Option Starting → ℕ
+lockAt validity limit now l none = 0
+lockAt validity limit now l (some s) = lockOf validity limit now l
+
+-- The table's rows for an event after a history.
+unfoldable pub causes : ℕ → ℕ → History → Event → List Cause
+causes validity limit h e =
+    cause (ltb (clockOf e) (h .last)) (clockEarlier (h .last))
+    ∷ cause (runs (h .test) && outsideTest (kindOf e)) testRunning
+    ∷ cause (not (runs (h .test)) && insideTest (kindOf e)) noTest
+    ∷ causeAt (settingAt (startIn e)) settingUnfit
+    ∷ cause (saturationBad (startIn e)) (saturationUnfit 0)
+    ∷ cause (causeBad (causeIn e)) causeUnfit
+    ∷ causeAt (readingAt (automaticIn (h .events)) (readingsIn e)) readingUnfit
+    ∷ causeAt (lockAt validity limit (clockOf e) (h .events) (startIn e)) startLocked
+    ∷ []
+
+-- What the first standing cause returns.
+unfoldable pub firstCause : List Cause → Option Refusal
+firstCause [] = none
+firstCause (c ∷ l) = pick (c .stands) (some (c .refusal)) (firstCause l)

@@ -1,0 +1,6 @@
+pub mod History
+pub mod Causes
+pub mod Telling
+pub mod Stepping
+pub mod Passes
+pub mod Demand

@@ -1,0 +1,4 @@
+pub mod Events
+pub mod Accepted
+pub mod Locks
+pub mod State

@@ -1,0 +1,7 @@
+pub mod Rows
+pub mod Items
+pub mod Sheets
+pub mod Taking
+pub mod Rejudging
+pub mod Line
+pub mod Storing
