@@ -10,10 +10,33 @@ use Rattle.correction.specs.Dilution.{dcfOf}
 use Rattle.correction.specs.Humidity.{kH}
 use Rattle.correction.proofs.Ranges.{k-dry}
 use Rattle.vehicle.specs.Driving.{inTolerance}
-use Rattle.worked.specs.Cases.{gases, Worked}
+use Rattle.locks.specs.Accepted.{since, any, orElse, latestOf, latestClock}
+use Rattle.locks.specs.Locks.{
+  notWarm,
+  inactive,
+  expired,
+  noneValid,
+  notCalibrated,
+  noneGood,
+  notSignedIn,
+  withTry,
+  triesIn,
+  wrongRow,
+  everInRow,
+  passwordLock,
+  authorityLock,
+  withVerdict,
+  verdictsIn,
+  unsentIn,
+  unsentLock,
+  locks,
+  firstStanding,
+  lockOf,
+}
+use Rattle.worked.specs.Cases.{gases, wrongTries, Worked}
 
 pub worked : Worked
-unfolding ofBits ofFields odd pick readingOf accepted halfUp unitCount judgedOf keep secondFrom secondOf gases quotient.halfUp dcfOf kH inTolerance
+unfolding ofBits ofFields odd pick readingOf accepted halfUp unitCount judgedOf keep secondFrom secondOf gases quotient.halfUp dcfOf kH inTolerance wrongTries since any orElse latestOf latestClock notWarm inactive expired noneValid notCalibrated noneGood notSignedIn withTry triesIn wrongRow everInRow passwordLock authorityLock withVerdict verdictsIn unsentIn unsentLock locks firstStanding lockOf
 worked = record {
   coBits = refl;
   coNegative = refl;
@@ -27,4 +50,9 @@ worked = record {
   kMoist = refl;
   loadIn = refl;
   loadOut = refl;
+  thirdTry = refl;
+  thirdThenGood = refl;
+  fourthTry = refl;
+  fourthBehind = refl;
+  fourthThenGood = refl;
 }

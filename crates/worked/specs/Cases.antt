@@ -1,7 +1,9 @@
 -- Document 01, "Worked by hand": the starred cases as one table. Each row sets what the definitions give against what document 01 writes.
 use mathlib.Core.Path.{_≡_}
 use mathlib.Core.Bool.{Bool, true, false}
-use Prim.Native.Nat.{ℕ, _<_}
+use mathlib.Core.List.{List, [], _∷_}
+use mathlib.Core.Option.{none}
+use Prim.Native.Nat.{ℕ, zero, suc, _<_}
 use Rattle.refusal.specs.Table.{refusal}
 use Rattle.reading.specs.Kind.{readingOf}
 use Rattle.reading.specs.Units.{secondOf}
@@ -13,6 +15,11 @@ use Rattle.reading.specs.declared.Converted.the-variants.{Fit, Refused}
 use Rattle.correction.specs.Dilution.{dcfOf}
 use Rattle.correction.specs.Humidity.{kH}
 use Rattle.vehicle.specs.Driving.{inTolerance}
+use Rattle.locks.specs.Accepted.{Accepted, accepted}
+use Rattle.locks.specs.Locks.{passwordLock, lockOf}
+use Rattle.locks.specs.declared.Calibration.the-variants.{Passed}
+use Rattle.locks.specs.declared.Try.the-variants.{Good, Wrong}
+use Rattle.locks.specs.declared.Event.the-variants.{WarmUp, Calibration, Try}
 
 -- The units of a second whose HC and CO have these bits and whose other readings are 0, with a manual gearbox.
 unfoldable pub gases : ℕ → ℕ → Converted
@@ -49,6 +56,17 @@ counts hc co = record {
 abbrev pub dcfAt : ℕ → ℕ → ℕ
 dcfAt a b = dcfOf (record { 0 = a }) (record { 0 = b })
 
+-- A bench warmed up and calibrated, then n wrong tries, newest first; V a day and U 10, and a start at clock 100.
+unfoldable pub wrongTries : ℕ → List Accepted
+wrongTries zero = accepted (Calibration 20 Passed) none ∷ accepted (WarmUp 10) none ∷ []
+wrongTries (suc n) = accepted (Try 30 Wrong) none ∷ wrongTries n
+
+abbrev pub goodTry : Accepted
+goodTry = accepted (Try 40 (Good 1000)) none
+
+abbrev pub lockAt100 : List Accepted → ℕ
+lockAt100 l = lockOf 86400 10 100 l
+
 pub record Worked : Type 0 where
   -- CO bits 0x3F80A3D7: 100
   pub coBits : gases 0 0x3F80A3D7 ≡ Fit (counts 0 100)
@@ -69,3 +87,10 @@ pub record Worked : Type 0 where
   -- P 225: load 229 in, 230 out
   pub loadIn : inTolerance 229 225 ≡ true
   pub loadOut : inTolerance 230 225 ≡ false
+  -- Third wrong try: no lock 5
+  pub thirdTry : passwordLock (wrongTries 3) ≡ false
+  pub thirdThenGood : lockAt100 (goodTry ∷ wrongTries 3) ≡ 0
+  -- fourth: lock 5 stands, behind lock 4 until a good try
+  pub fourthTry : passwordLock (wrongTries 4) ≡ true
+  pub fourthBehind : lockAt100 (wrongTries 4) ≡ 4
+  pub fourthThenGood : lockAt100 (goodTry ∷ wrongTries 4) ≡ 5
