@@ -25,7 +25,7 @@ use Rattle.loaded_test.specs.declared.Next.the-variants.{GoesOn, Ends}
 use Rattle.loaded_test.specs.Voids.{stepFive}
 use Rattle.loaded_test.specs.Settling.{settlingLeft, closedOne, settlesIn, settles}
 use Rattle.loaded_test.specs.Measuring.{closed, concluded, windowTaken, windowJudged, windowKept, judged, measures}
-use Rattle.loaded_test.specs.Steps.{inAttempt, actAt, taken, measured, acted, second}
+use Rattle.loaded_test.specs.Steps.{taken, measured, inAttempt, secondAt, second}
 use Rattle.loaded_test.specs.Log.{Entry, Input, aSecond, replay, logged, logOf}
 
 -- Motorcycle of 2005, 125 ml, automatic, with its limits, targets and loads, and k of 50 %, 2339 Pa, 101.3 kPa.
@@ -67,8 +67,8 @@ pub passes-36 :
 unfolding
     pick halfUp dcfOf aimOf inTolerance secondOut measuredOf windowValid sumOf sumNo windowPasses inRow inAll screened
     ready begunAnew watched settledOne secondOne earlyPass endingRule tallied windowCounted stepFive settlingLeft
-    closedOne settlesIn settles closed concluded windowTaken windowJudged windowKept judged measures inAttempt actAt taken measured
-    acted second replay logged logOf
+    closedOne settlesIn settles closed concluded windowTaken windowJudged windowKept judged measures inAttempt secondAt taken measured
+    second replay logged logOf
 passes-36 = refl
 
 -- One row fewer tells nothing yet.
@@ -76,6 +76,6 @@ pub open-35 : newest (logOf motorcycle (replicate 35 (aSecond row))) ≡ GoesOn
 unfolding
     pick halfUp dcfOf aimOf inTolerance secondOut measuredOf windowValid sumOf sumNo windowPasses inRow inAll screened
     ready begunAnew watched settledOne secondOne earlyPass endingRule tallied windowCounted stepFive settlingLeft
-    closedOne settlesIn settles closed concluded windowTaken windowJudged windowKept judged measures inAttempt actAt taken measured
-    acted second replay logged logOf
+    closedOne settlesIn settles closed concluded windowTaken windowJudged windowKept judged measures inAttempt secondAt taken measured
+    second replay logged logOf
 open-35 = refl

@@ -34,8 +34,6 @@ use Rattle.loaded_test.specs.declared.Stage.the-variants.{Settling, Meas
 use Rattle.loaded_test.specs.declared.VoidCounts.{VoidCounts}
 use Rattle.loaded_test.specs.declared.Progress.{Progress}
 use Rattle.loaded_test.specs.declared.Turn.{Turn}
-use Rattle.loaded_test.specs.declared.Act.{Act}
-use Rattle.loaded_test.specs.declared.Act.the-variants.{Turns, Measures, Refuses}
 use Rattle.loaded_test.specs.declared.Test.{Test}
 use Rattle.loaded_test.specs.declared.Stepped.{Stepped}
 use Rattle.loaded_test.specs.State.{withMeasuring, verdictOf, stepped, steppedWith, refused}
@@ -43,7 +41,7 @@ use Rattle.loaded_test.specs.Voids.{ended, modeEnded, voidCounted, voidN
 use Rattle.loaded_test.specs.Rest.{restCount, rested}
 use Rattle.loaded_test.specs.Settling.{settlingLeft, closedOne, closedTwo, settlesIn, settles}
 use Rattle.loaded_test.specs.Measuring.{closed, concluded, judged, measures}
-use Rattle.loaded_test.specs.Steps.{inAttempt, actAt, taken, measured, acted, second, causeFit, stopTaken, stop}
+use Rattle.loaded_test.specs.Steps.{taken, measured, inAttempt, secondAt, second, causeFit, stopTaken, stop}
 use Rattle.loaded_test.specs.Going.{hasEnded, endsIn, Goes}
 use Rattle.loaded_test.proofs.Voiding.{same-end}
 
@@ -130,29 +128,29 @@ module _ (p : Progress) (running : hasEnded (p .stage) ≡ false) where
 attempt-goes :
     (x : Test) (s : Second) (y : Screen) (measuring : Bool) →
     hasEnded (x .progress .stage) ≡ false →
-    Goes (acted (inAttempt y measuring (x .vehicle) s (x .progress)) x s)
-unfolding inAttempt acted endsIn settles taken measured
+    Goes (inAttempt y measuring x s)
+unfolding inAttempt endsIn settles taken measured
 attempt-goes x s Waits measuring e = turned x _ (open-level _ e refl)
 attempt-goes x s (Flawed n) measuring e = turned x _ (void-level n _)
 attempt-goes x s Clear measuring e =
-    on-pick (λ (a : Act). Goes (acted a x s)) measuring _ _
+    on-pick Goes measuring _ _
     (λ _. measures-goes _ e x _ _)
     (λ _. turned x _ (settles-level _ e (x .progress .mode) (x .vehicle) s))
 
-acted-goes :
+at-goes :
     (x : Test) (s : Second) (st : Stage) →
     hasEnded (x .progress .stage) ≡ false →
     hasEnded st ≡ false →
-    Goes (acted (actAt st (x .vehicle) s (x .progress)) x s)
-unfolding actAt acted hasEnded
-acted-goes x s Settling e o = attempt-goes x s _ false e
-acted-goes x s Measuring e o = attempt-goes x s _ true e
-acted-goes x s Rest e o = turned x _ (rest-level (x .progress) e _)
-acted-goes x s (Ended w) e o = absurd (nonsense o)
+    Goes (secondAt st x s)
+unfolding secondAt hasEnded
+at-goes x s Settling e o = attempt-goes x s _ false e
+at-goes x s Measuring e o = attempt-goes x s _ true e
+at-goes x s Rest e o = turned x _ (rest-level (x .progress) e _)
+at-goes x s (Ended w) e o = absurd (nonsense o)
 
 pub second-goes : (x : Test) (s : Second) → hasEnded (x .progress .stage) ≡ false → Goes (second x s)
 unfolding second
-second-goes x s e = acted-goes x s (x .progress .stage) e e
+second-goes x s e = at-goes x s (x .progress .stage) e e
 
 pub stop-goes :
     (x : Test) (n : ℕ) → causeFit n ≡ true → hasEnded (x .progress .stage) ≡ false → Goes (stop x n)

@@ -7,3 +7,4 @@ pub mod Taking
 pub mod Passing
 pub mod Going
 pub mod Examples
+pub mod Stages

@@ -29,7 +29,7 @@ use Rattle.loaded_test.specs.State.{turn, nothing, withCounted, refused,
 use Rattle.loaded_test.specs.Going.{hasEnded}
 use Rattle.loaded_test.specs.Voids.{voided}
 use Rattle.attempt.specs.Screening.{waits, diluted, screened}
-use Rattle.loaded_test.specs.Steps.{counted, taken, measured, inAttempt, actAt, acted, second, isResting, causeFit, stopTaken, stop}
+use Rattle.loaded_test.specs.Steps.{counted, taken, measured, inAttempt, secondAt, second, isResting, causeFit, stopTaken, stop}
 use Rattle.loaded_test.specs.Windows.{windowOf}
 use Rattle.loaded_test.specs.Log.{Entry, Input, aSecond, aStop, step, replay, logged, logOf}
 use Rattle.loaded_test.specs.Claim.{modeIn, voids, Clean, InAttempt, atStart, goesOn, PassClaim}
@@ -64,11 +64,11 @@ module _ (x : Test) (log : List Entry) where
       Told log (x .progress .mode) (x .progress .voids) →
       Open (x .progress) →
       (waits (x .progress .counted) s ≡ true → Good (x .vehicle) (aSecond s) log (x .last) (nothing (x .progress))) →
-      (Clean s → Kept (x .vehicle) (aSecond s) log (acted (inAttempt Clear measuring (x .vehicle) s (x .progress)) x s)) →
-      Kept (x .vehicle) (aSecond s) log (acted (inAttempt (screened (x .progress .counted) s) measuring (x .vehicle) s (x .progress)) x s)
-  unfolding screened inAttempt acted
+      (Clean s → Kept (x .vehicle) (aSecond s) log (inAttempt Clear measuring x s)) →
+      Kept (x .vehicle) (aSecond s) log (inAttempt (screened (x .progress .counted) s) measuring x s)
+  unfolding screened inAttempt
   attempt-good s measuring t o waiting clear =
-      let P : Screen → Type 0 = λ y. Kept (x .vehicle) (aSecond s) log (acted (inAttempt y measuring (x .vehicle) s (x .progress)) x s) in
+      let P : Screen → Type 0 = λ y. Kept (x .vehicle) (aSecond s) log (inAttempt y measuring x s) in
       let m = settling-most (x .progress .mode) in
       on-pick P (waits (x .progress .counted) s) _ _
       (λ e. kept-turn (x .vehicle) (aSecond s) log (x .last) (x .window) _ (waiting e))
@@ -84,8 +84,8 @@ module _ (x : Test) (log : List Entry) where
       (s : Second) →
       x .progress .stage ≡ Settling →
       Settles log (x .progress) →
-      Kept (x .vehicle) (aSecond s) log (acted (actAt Settling (x .vehicle) s (x .progress)) x s)
-  unfolding actAt acted inAttempt voids pick
+      Kept (x .vehicle) (aSecond s) log (secondAt Settling x s)
+  unfolding secondAt inAttempt voids pick
   settling-good s e h =
       let o = h .bounds in
       attempt-good s false (h .told) (h .bounds)
@@ -99,8 +99,8 @@ module _ (x : Test) (log : List Entry) where
       (s : Second) →
       x .progress .stage ≡ Measuring →
       Runs (x .vehicle) log (x .progress) (x .last) →
-      Kept (x .vehicle) (aSecond s) log (acted (actAt Measuring (x .vehicle) s (x .progress)) x s)
-  unfolding actAt acted inAttempt taken measured pick
+      Kept (x .vehicle) (aSecond s) log (secondAt Measuring x s)
+  unfolding secondAt inAttempt taken measured pick
   measuring-good s e h =
       let o = h .bounds in
       let r = h .running .started in
@@ -134,8 +134,8 @@ module _ (x : Test) (log : List Entry) where
       x .progress .stage ≡ st →
       AtStage st (x .vehicle) log (x .progress) (x .last) →
       Claims (x .vehicle) log →
-      Kept (x .vehicle) (aSecond s) log (acted (actAt st (x .vehicle) s (x .progress)) x s)
-  unfolding actAt acted logged
+      Kept (x .vehicle) (aSecond s) log (secondAt st x s)
+  unfolding secondAt logged
   second-at s Settling e h c = settling-good s e h
   second-at s Measuring e h c = measuring-good s e h
   second-at s Rest e h c =

@@ -16,8 +16,6 @@ use Rattle.loaded_test.specs.declared.Stage.{Stage}
 use Rattle.loaded_test.specs.declared.Stage.the-variants.{Settling, Measuring, Rest, Ended}
 use Rattle.attempt.specs.declared.Screen.{Screen}
 use Rattle.attempt.specs.declared.Screen.the-variants.{Waits, Flawed, Clear}
-use Rattle.loaded_test.specs.declared.Act.{Act}
-use Rattle.loaded_test.specs.declared.Act.the-variants.{Turns, Measures, Refuses}
 use Rattle.loaded_test.specs.declared.Progress.{Progress}
 use Rattle.loaded_test.specs.declared.Turn.{Turn}
 use Rattle.loaded_test.specs.declared.Test.{Test}
@@ -39,19 +37,6 @@ use Rattle.loaded_test.specs.Measuring.{measures}
 abbrev pub counted : Progress → Progress
 counted p = withCounted (bump (p .counted)) p
 
--- A second in an attempt: steps 2 and 3, then step 4, where measuring takes the second with c grown.
-unfoldable pub inAttempt : Screen → Bool → Vehicle → Second → Progress → Act
-inAttempt Waits measuring v s p = Turns (nothing p)
-inAttempt (Flawed n) measuring v s p = Turns (voided n (counted p))
-inAttempt Clear measuring v s p = pick measuring (Measures (counted p)) (Turns (settles v s (counted p)))
-
--- What a second comes to at each stage. "second or stop, no test": an ended test refuses it.
-unfoldable pub actAt : Stage → Vehicle → Second → Progress → Act
-actAt Settling v s p = inAttempt (screened (p .counted) s) false v s p
-actAt Measuring v s p = inAttempt (screened (p .counted) s) true v s p
-actAt Rest v s p = Turns (rested (restCount (p .resting) s) p)
-actAt (Ended w) v s p = Refuses noTest
-
 -- A second's units, taken up by t, u and w.
 unfoldable pub taken : Test → Second → Measured → Progress → Stepped
 taken x s m p = measures x m (tallied (m .out) (s .speed) (p .measuring)) p
@@ -60,14 +45,31 @@ taken x s m p = measures x m (tallied (m .out) (s .speed) (p .measuring)) p
 unfoldable pub measured : Test → Second → Progress → Stepped
 measured x s p = taken x s (measuredOf (x .vehicle) (p .mode) s) p
 
-unfoldable pub acted : Act → Test → Second → Stepped
-acted (Turns y) x s = stepped x y
-acted (Measures p) x s = measured x s p
-acted (Refuses r) x s = refused r x
+-- A second in an attempt, settling or measuring: steps 2 and 3, then step 4 with c grown.
+unfoldable pub inAttempt : Screen → Bool → Test → Second → Stepped
+inAttempt Waits measuring x s = stepped x (nothing (x .progress))
+inAttempt (Flawed n) measuring x s = stepped x (voided n (counted (x .progress)))
+inAttempt Clear measuring x s =
+    pick measuring
+    (measured x s (counted (x .progress)))
+    (stepped x (settles (x .vehicle) s (counted (x .progress))))
+
+-- What a second comes to at each stage. "second or stop, no test": an ended test refuses it.
+unfoldable pub secondAt : Stage → Test → Second → Stepped
+secondAt Settling x s = inAttempt (screened (x .progress .counted) s) false x s
+secondAt Measuring x s = inAttempt (screened (x .progress .counted) s) true x s
+secondAt Rest x s = stepped x (rested (restCount (x .progress .resting) s) (x .progress))
+secondAt (Ended w) x s = refused noTest x
 
 -- A second.
 unfoldable pub second : Test → Second → Stepped
-second x s = acted (actAt (x .progress .stage) (x .vehicle) s (x .progress)) x s
+second x s = secondAt (x .progress .stage) x s
+
+unfoldable pub isMeasuring : Stage → Bool
+isMeasuring Settling = false
+isMeasuring Measuring = true
+isMeasuring Rest = false
+isMeasuring (Ended w) = false
 
 unfoldable pub isResting : Stage → Bool
 isResting Settling = false

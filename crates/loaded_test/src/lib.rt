@@ -128,13 +128,6 @@ pub(crate) struct Turn {
     progress: Progress,
 }
 
-// What a second comes to before the windows are looked at: a turn, a second to be measured with c grown, or a refusal.
-pub(crate) enum Act {
-    Turns(Turn),
-    Measures(Progress),
-    Refuses(Refusal),
-}
-
 const NO_TEST: Refusal = Refusal {
     number: 13,
     place: 0,
@@ -203,9 +196,22 @@ pub fn second(test: Test, s: Second) -> Stepped
     ensures { λ r. ⌜ r ≡ second test s ⌝ }
 {
     let p = test.progress;
-    let v = test.vehicle;
     let stage = p.stage;
-    steps::acted(steps::act_at(stage, v, s, p), test, s)
+    if steps::has_ended(stage) {
+        return steps::refused(NO_TEST, test);
+    }
+    if steps::is_resting(stage) {
+        return measuring::stepped(
+            test,
+            settling::rested(settling::rest_count(p.resting, s), p),
+        );
+    }
+    steps::in_attempt(
+        attempt::screened(p.counted, s),
+        steps::is_measuring(stage),
+        test,
+        s,
+    )
 }
 
 // A stop. On an ended test it is refused 13, of another cause than 1 to 4 refused 15.

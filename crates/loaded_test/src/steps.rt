@@ -1,23 +1,18 @@
 // A second and a stop, by the stage.
 ghost use mathlib.Core.Path.{_≡_};
 ghost use Rattle.attempt.specs.declared.Screen.the-variants.{Clear};
-ghost use Rattle.loaded_test.specs.declared.Act.the-variants.{Turns};
 ghost use Rattle.loaded_test.specs.State.{refused};
 ghost use Rattle.loaded_test.specs.Going.{hasEnded};
-ghost use Rattle.loaded_test.specs.Rest.{restCount, rested};
 ghost use Rattle.loaded_test.specs.Steps.{
   counted,
   inAttempt,
-  actAt,
   measured,
-  acted,
+  isMeasuring,
   isResting,
   causeFit,
   stopTaken,
 };
-use crate::Act;
 use crate::Answer;
-use crate::NO_TEST;
 use crate::Progress;
 use crate::Stage;
 use crate::Stepped;
@@ -25,14 +20,11 @@ use crate::Test;
 use crate::Turn;
 use crate::measuring::measures;
 use crate::measuring::stepped;
-use crate::settling::rest_count;
-use crate::settling::rested;
 use crate::settling::settles;
 use crate::voids::nothing;
 use crate::voids::voided;
 use attempt::Screen;
 use attempt::bump;
-use attempt::screened;
 use attempt::tallied;
 use reading::Second;
 use refusal::Refusal;
@@ -47,43 +39,6 @@ fn counted(p: Progress) -> Progress
     q
 }
 
-fn cleared(measuring: bool, v: Vehicle, s: Second, p: Progress) -> Act
-    ensures { λ r. ⌜ r ≡ inAttempt Clear measuring v s p ⌝ }
-{
-    let q = counted(p);
-    if measuring {
-        return Act::Measures(q);
-    }
-    Act::Turns(settles(v, s, q))
-}
-
-fn in_attempt(screen: Screen, measuring: bool, v: Vehicle, s: Second, p: Progress) -> Act
-    ensures { λ r. ⌜ r ≡ inAttempt screen measuring v s p ⌝ }
-{
-    match screen {
-        Screen::Waits => Act::Turns(nothing(p)),
-        Screen::Flawed(n) => Act::Turns(voided(n, counted(p))),
-        Screen::Clear => cleared(measuring, v, s, p),
-    }
-}
-
-fn in_rest(s: Second, p: Progress) -> Act
-    ensures { λ r. ⌜ r ≡ Turns (rested (restCount (p .resting) s) p) ⌝ }
-{
-    Act::Turns(rested(rest_count(p.resting, s), p))
-}
-
-pub(crate) fn act_at(stage: Stage, v: Vehicle, s: Second, p: Progress) -> Act
-    ensures { λ r. ⌜ r ≡ actAt stage v s p ⌝ }
-{
-    match stage {
-        Stage::Settling => in_attempt(screened(p.counted, s), false, v, s, p),
-        Stage::Measuring => in_attempt(screened(p.counted, s), true, v, s, p),
-        Stage::Rest => in_rest(s, p),
-        Stage::Ended(_) => Act::Refuses(NO_TEST),
-    }
-}
-
 fn measured(x: Test, s: Second, p: Progress) -> Stepped
     ensures { λ r. ⌜ r ≡ measured x s p ⌝ }
 {
@@ -94,6 +49,29 @@ fn measured(x: Test, s: Second, p: Progress) -> Stepped
     measures(x, m, tallied(m.out(), s.speed(), k), p)
 }
 
+fn cleared(measuring: bool, x: Test, s: Second) -> Stepped
+    ensures { λ r. ⌜ r ≡ inAttempt Clear measuring x s ⌝ }
+{
+    let p = x.progress;
+    let q = counted(p);
+    if measuring {
+        return measured(x, s, q);
+    }
+    let v = x.vehicle;
+    stepped(x, settles(v, s, q))
+}
+
+pub(crate) fn in_attempt(screen: Screen, measuring: bool, x: Test, s: Second) -> Stepped
+    ensures { λ r. ⌜ r ≡ inAttempt screen measuring x s ⌝ }
+{
+    let p = x.progress;
+    match screen {
+        Screen::Waits => stepped(x, nothing(p)),
+        Screen::Flawed(n) => stepped(x, voided(n, counted(p))),
+        Screen::Clear => cleared(measuring, x, s),
+    }
+}
+
 // The test stays as it was.
 pub(crate) fn refused(r: Refusal, x: Test) -> Stepped
     ensures { λ y. ⌜ y ≡ refused r x ⌝ }
@@ -101,16 +79,6 @@ pub(crate) fn refused(r: Refusal, x: Test) -> Stepped
     Stepped {
         answer: Answer::Refused(r),
         test: x,
-    }
-}
-
-pub(crate) fn acted(act: Act, x: Test, s: Second) -> Stepped
-    ensures { λ r. ⌜ r ≡ acted act x s ⌝ }
-{
-    match act {
-        Act::Turns(turn) => stepped(x, turn),
-        Act::Measures(p) => measured(x, s, p),
-        Act::Refuses(r) => refused(r, x),
     }
 }
 
@@ -132,6 +100,17 @@ pub(crate) fn is_resting(stage: Stage) -> bool
         Stage::Settling => false,
         Stage::Measuring => false,
         Stage::Rest => true,
+        Stage::Ended(_) => false,
+    }
+}
+
+pub(crate) fn is_measuring(stage: Stage) -> bool
+    ensures { λ r. ⌜ r ≡ isMeasuring stage ⌝ }
+{
+    match stage {
+        Stage::Settling => false,
+        Stage::Measuring => true,
+        Stage::Rest => false,
         Stage::Ended(_) => false,
     }
 }

@@ -24,7 +24,7 @@ use Rattle.loaded_test.specs.Going.{hasEnded, endsIn}
 use Rattle.loaded_test.specs.Measuring.{closed, concluded, windowTaken, windowJudged, windowKept, measures}
 use Rattle.loaded_test.specs.Rest.{restCount, rested}
 use Rattle.loaded_test.specs.Settling.{settlingLeft, closedOne, closedTwo, settlesIn, settles}
-use Rattle.loaded_test.specs.Steps.{inAttempt, actAt, taken, measured, acted, second, isResting, stop, begunBy, begin}
+use Rattle.loaded_test.specs.Steps.{taken, measured, inAttempt, secondAt, second, isResting, stop, begunBy, begin}
 use Rattle.loaded_test.specs.Voids.{modeEnded, voidCounted, voidNext, twiceInconclusive, thirdVoid, voidFollowed, voided, stepFive}
 use Rattle.locks.specs.Accepted.{since, any, orElse, latestOf, latestClock}
 use Rattle.locks.specs.Locks.{notWarm, inactive, expired, noneValid, notCalibrated, noneGood, notSignedIn, withTry, triesIn, wrongRow, everInRow, passwordLock, authorityLock, withVerdict, verdictsIn, unsentIn, unsentLock, locks, firstStanding, lockOf}
@@ -36,5 +36,5 @@ use Rattle.bench.specs.Telling.{secondInput, verdictNext, verdictTold, endedBy,
 use Rattle.worked.specs.Runs.{Played}
 
 pub played : Played
-unfolding benchAnswers pick readingOf accepted unitCount Rattle.reading.specs.Rounding.halfUp judgedOf keep secondFrom secondOf dcfOf kH humidityFactor Rattle.correction.specs.Rounding.halfUp vehicleOf checkedOf aimOf inTolerance limitsFor limitRow rowUpTo displacementBounds loads loadFor targetFor ranges rangeAt settingFit firstUnfit unfitPlace sumOf sumNo windowPasses averagesOf secondOut measuredOf windowValid inRow inAll atNinety earlyPass endingRule tallied windowCounted ready screened begunAnew watched settledOne settledTwo secondOne secondTwo hasEnded endsIn closed concluded windowTaken windowJudged windowKept measures Rattle.loaded_test.specs.Measuring.judged restCount rested settlingLeft closedOne closedTwo settlesIn settles inAttempt actAt taken measured acted second isResting stop begunBy begin Rattle.loaded_test.specs.Steps.stopTaken modeEnded voidCounted voidNext twiceInconclusive thirdVoid voidFollowed voided stepFive since any orElse latestOf latestClock notWarm inactive expired noneValid notCalibrated noneGood notSignedIn withTry triesIn wrongRow everInRow passwordLock authorityLock withVerdict verdictsIn unsentIn unsentLock locks firstStanding lockOf activeAfter unsentAfter lockNumber settingAt saturationBad causeBad automaticOf codeOf readingAt lockAt causes firstCause runs lockRuling startTaken secondTaken deskRuling step openedOf Rattle.bench.specs.Stepping.stopTaken secondInput verdictNext verdictTold endedBy stepTaken acceptance added tell historyAfter historyAnswers Rattle.bench.specs.Telling.judged
+unfolding benchAnswers pick readingOf accepted unitCount Rattle.reading.specs.Rounding.halfUp judgedOf keep secondFrom secondOf dcfOf kH humidityFactor Rattle.correction.specs.Rounding.halfUp vehicleOf checkedOf aimOf inTolerance limitsFor limitRow rowUpTo displacementBounds loads loadFor targetFor ranges rangeAt settingFit firstUnfit unfitPlace sumOf sumNo windowPasses averagesOf secondOut measuredOf windowValid inRow inAll atNinety earlyPass endingRule tallied windowCounted ready screened begunAnew watched settledOne settledTwo secondOne secondTwo hasEnded endsIn closed concluded windowTaken windowJudged windowKept measures Rattle.loaded_test.specs.Measuring.judged restCount rested settlingLeft closedOne closedTwo settlesIn settles taken measured inAttempt secondAt second isResting stop begunBy begin Rattle.loaded_test.specs.Steps.stopTaken modeEnded voidCounted voidNext twiceInconclusive thirdVoid voidFollowed voided stepFive since any orElse latestOf latestClock notWarm inactive expired noneValid notCalibrated noneGood notSignedIn withTry triesIn wrongRow everInRow passwordLock authorityLock withVerdict verdictsIn unsentIn unsentLock locks firstStanding lockOf activeAfter unsentAfter lockNumber settingAt saturationBad causeBad automaticOf codeOf readingAt lockAt causes firstCause runs lockRuling startTaken secondTaken deskRuling step openedOf Rattle.bench.specs.Stepping.stopTaken secondInput verdictNext verdictTold endedBy stepTaken acceptance added tell historyAfter historyAnswers Rattle.bench.specs.Telling.judged
 played = record { bench = refl; history = refl }

@@ -1,19 +1,63 @@
 -- `second` meets its contract. Assumes nothing.
+use mathlib.Core.Path.{_∙_, sym}
+use Rattle.loaded_test.proofs.Stages.{at-end, at-rest, in-attempt}
 use Rattle.loaded_test.specs.Steps.{second}
-use mathlib.Core.Path.{_∙_}
 use borrow.Author.Needs.{needs}
 use Rattle.loaded_test.proofs.second.Statement.{statement}
 use Rattle.loaded_test.proofs.second.Tie as tie
 
-act-at-requires : tie.Need-act-at-requires
-act-at-requires c κs = search needs
+has-ended-requires : tie.Need-has-ended-requires
+has-ended-requires c κs = search needs
 
-acted-requires : tie.Need-acted-requires
-acted-requires c κs = search needs
+refused-requires : tie.Need-refused-requires
+refused-requires c κs = search needs
 
 returns : tie.Need-returns
 unfolding second
-returns c = c .acted .ensures ∙ simp (c .before .act-at .ensures)
+returns c = c .refused .ensures ∙ sym (at-end _ _ _ (sym (c .before .before .has-ended .ensures) ∙ c .before .if1 .taken))
+
+is-resting-requires : tie.Need-is-resting-requires
+is-resting-requires c κs = search needs
+
+rest-count-requires : tie.Need-rest-count-requires
+rest-count-requires c κs = search needs
+
+rested-requires : tie.Need-rested-requires
+rested-requires c κs = search needs
+
+stepped-requires : tie.Need-stepped-requires
+stepped-requires c κs = search needs
+
+returns-2 : tie.Need-returns-2
+unfolding second
+returns-2 c = c .stepped .ensures ∙ (simp (c .before .rested .ensures, c .before .before .rest-count .ensures)) ∙ sym (at-rest _ _ _ (sym (c .before .before .before .before .is-resting .ensures) ∙ c .before .before .before .if2 .taken))
+
+screened-requires : tie.Need-screened-requires
+screened-requires c κs = search needs
+
+is-measuring-requires : tie.Need-is-measuring-requires
+is-measuring-requires c κs = search needs
+
+in-attempt-requires : tie.Need-in-attempt-requires
+in-attempt-requires c κs = search needs
+
+returns-3 : tie.Need-returns-3
+unfolding second
+returns-3 c = c .in-attempt .ensures ∙ (simp (c .before .before .screened .ensures, c .before .is-measuring .ensures)) ∙ sym (in-attempt _ _ _ (sym (c .before .before .before .before .before .before .has-ended .ensures) ∙ c .before .before .before .before .before .if1 .left) (sym (c .before .before .before .before .is-resting .ensures) ∙ c .before .before .before .if2 .left))
 
 pub second-spec : {M : Type 1} → statement M
-second-spec = tie.close (tie.spec act-at-requires acted-requires returns)
+second-spec =
+    tie.close
+    (tie.spec
+    has-ended-requires
+    refused-requires
+    returns
+    is-resting-requires
+    rest-count-requires
+    rested-requires
+    stepped-requires
+    returns-2
+    screened-requires
+    is-measuring-requires
+    in-attempt-requires
+    returns-3)
