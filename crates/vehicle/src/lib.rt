@@ -3,7 +3,6 @@
 
 ghost use mathlib.Core.Path.{_≡_};
 ghost use Prim.Native.Nat.{_≤_, _<_};
-ghost use Rattle.correction.specs.Humidity.{saturationFit};
 ghost use Rattle.vehicle.specs.Settings.{settingFit, unfitPlace};
 ghost use Rattle.vehicle.specs.Limits.{limitRow, limitsFor};
 ghost use Rattle.vehicle.specs.Loads.{rowUpTo, displacementBounds, loadFor, targetFor, aimFor};
@@ -143,14 +142,6 @@ pub fn setting_fit(place: u8, kind: u16, value: u16) -> bool
     }
     let range = RANGES[at];
     (range.low <= value) & (value <= range.high)
-}
-
-// Whether a saturation pressure is fit: 500 to 4300 Pa.
-// Ruled out: 499 taken, and 4300 refused.
-pub fn saturation_fit(p: u16) -> bool
-    ensures { λ r. ⌜ r ≡ saturationFit p ⌝ }
-{
-    correction::saturation_fit(p)
 }
 
 // The place, 1 to 7, of the first unfit setting; 0 where all are fit.
