@@ -5,17 +5,14 @@ use mathlib.Core.List.{List, [], _∷_}
 use mathlib.Core.Path.{_≡_, refl, sym, _∙_, ap, subst}
 use native.Mathlib.Omega.{arith}
 use native.Mathlib.Nat.{le-refl}
-use lib.Dec.{eqb}
 use Rattle.refusal.specs.Choice.{pick}
 use Rattle.reading.specs.Units.{secondOf}
 use Rattle.reading.specs.declared.Converted.{Converted}
 use Rattle.reading.specs.declared.Converted.the-variants as converted
-use Rattle.attempt.specs.declared.MeasuringCounts.{MeasuringCounts}
 use Rattle.vehicle.specs.Checked.{checkedOf}
 use Rattle.vehicle.specs.declared.Checked.{Checked}
 use Rattle.vehicle.specs.declared.Checked.the-variants as checked
 use Rattle.vehicle.specs.declared.Settings.{Settings}
-use Rattle.record.specs.Format.{Below}
 use Rattle.record.specs.Reading.{readRecord, stopCauseIn}
 use Rattle.record.specs.declared.Read.the-variants as read
 use Rattle.record.specs.declared.Shape.{Shape}
@@ -35,7 +32,7 @@ use Rattle.loaded_test.specs.declared.Word.the-variants as word
 use Rattle.loaded_test.proofs.Going.{second-goes, stop-goes}
 use Rattle.locks.specs.Events.{clockAfter}
 use Rattle.locks.specs.declared.Event.{Event}
-use Rattle.locks.specs.declared.Event.the-variants.{Start, Second, Stop}
+use Rattle.locks.specs.declared.Event.the-variants.{Start, Stop}
 use Rattle.bench.specs.Demand.{benchAfter, benchAnswers}
 use Rattle.bench.specs.Stepping.{withTest, secondTaken, testTaken, step}
 use Rattle.bench.specs.declared.Answer.the-variants as answer
@@ -46,13 +43,12 @@ use Rattle.rejudging.specs.Rejudging.{settingsOf, saturationOf, automaticOf, st
 use Rattle.rejudging.specs.Rows.{columnsOf, readingsIn, rowStart}
 use Rattle.rejudging.specs.Sheets.{shownFor, shownOf, sheetOf}
 use Rattle.rejudging.specs.Taking.{unitsGiven, rowGiven, itemGiven, stepped, orRefused, ranBy}
-use Rattle.rejudging.specs.declared.Rejudged.{Rejudged}
 use Rattle.rejudging.specs.declared.Rejudged.the-variants as rejudged
 use Rattle.rejudging.specs.declared.Sheet.{Sheet}
 use Rattle.rejudging.specs.declared.Shown.{Shown}
 use Rattle.rejudging.specs.declared.Shown.the-variants as shown
 use Rattle.rejudging.proofs.WasRead.{start-fit}
-use Rattle.agreement.specs.Agreement.{eventOf, EventsOf, AllAccepted, verdictsIn, verdictShown, Agrees, Agreement}
+use Rattle.agreement.specs.Agreement.{eventOf, EventsOf, verdictsIn, verdictShown, Agrees, Agreement}
 use Rattle.agreement.proofs.Causes.{CausesFit, causes-fit}
 use Rattle.agreement.proofs.Following.{admitted, second-taken, stop-taken, goes-on, ends}
 

@@ -1,14 +1,14 @@
 -- The stops of a record that was read have fit causes. Assumes nothing.
-use Prim.Native.Nat.{ℕ, zero, suc, _+_, _*_, _≤_, _<_}
-use mathlib.Core.Bool.{Bool, true, _&&_}
+use Prim.Native.Nat.{ℕ, zero, suc, _+_, _*_, _<_}
+use mathlib.Core.Bool.{true}
 use mathlib.Core.List.{List, [], _∷_}
-use mathlib.Core.Path.{_≡_, refl, sym, _∙_, ap, subst}
+use mathlib.Core.Path.{_≡_, _∙_, ap, subst}
 use native.Mathlib.Nat.{zero-add, mul-one}
 use native.Mathlib.Omega.{arith}
 use lib.Dec.{leb}
 use lib.ListN.{length, getD, List·getD-map}
 use Rattle.refusal.proofs.Picked.{on-pick}
-use Rattle.record.specs.Content.{countIn, numbersIn, shapeOf, contentOf}
+use Rattle.record.specs.Content.{numbersIn, shapeOf, contentOf}
 use Rattle.record.specs.Format.{Below}
 use Rattle.record.specs.Layout.{stopsAt}
 use Rattle.record.specs.Reading.{readRecord, readSection, stopCauseIn}

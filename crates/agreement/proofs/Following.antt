@@ -1,7 +1,7 @@
 -- How a bench follows the steps of its test. Assumes nothing.
 use Prim.Native.Nat.{ℕ, _≤_}
 use mathlib.Core.Bool.{Bool, true, false, true≢false}
-use mathlib.Core.Path.{_≡_, refl, sym, _∙_}
+use mathlib.Core.Path.{_≡_, refl}
 use native.Mathlib.Omega.{arith}
 use borrow.Author.Tests.{le-ltb}
 use lib.Dec.{eqb}
@@ -20,23 +20,7 @@ use Rattle.loaded_test.specs.declared.Test.{Test}
 use Rattle.loaded_test.specs.declared.Verdict.{Verdict}
 use Rattle.locks.specs.declared.Event.{Event}
 use Rattle.locks.specs.declared.Event.the-variants.{Start, Second, Stop}
-use Rattle.bench.specs.Stepping.{
-  withTest,
-  firstRefusal,
-  fitness,
-  lockRuling,
-  startJudged,
-  startTaken,
-  goneOn,
-  judgedWith,
-  followed,
-  testTaken,
-  secondTaken,
-  stopTaken,
-  deskRuling,
-  ruled,
-  step,
-}
+use Rattle.bench.specs.Stepping.{withTest, firstRefusal, fitness, lockRuling, startJudged, startTaken, goneOn, judgedWith, followed, testTaken, secondTaken, stopTaken, deskRuling, ruled, step}
 use Rattle.bench.specs.declared.Answer.the-variants as answer
 use Rattle.bench.specs.declared.Bench.{Bench}
 

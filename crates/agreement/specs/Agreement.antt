@@ -1,7 +1,7 @@
 -- Rejudging gives a record the verdict, t and counts that any bench gives it which admits a start with its settings and p and is given its
 -- rows and stops as events.
 use Prim.Native.Nat.{ℕ, _≤_}
-use mathlib.Core.Bool.{Bool, true, false}
+use mathlib.Core.Bool.{true}
 use mathlib.Core.List.{List, [], _∷_}
 use mathlib.Core.Path.{_≡_}
 use Rattle.record.specs.Format.{Below}

@@ -1,7 +1,7 @@
 -- The greatest counts of settling after a second. Assumes nothing.
-use Prim.Native.Nat.{ℕ, suc, _+_, _≤_, min}
+use Prim.Native.Nat.{ℕ, suc, _≤_}
 use native.Mathlib.Omega.{arith}
-use mathlib.Core.Bool.{Bool, true, false, not, _&&_, _||_}
+use mathlib.Core.Bool.{Bool, false, not, _&&_, _||_}
 use mathlib.Core.Path.{_≡_}
 use lib.Dec.{leb, eqb}
 use borrow.Author.Tests.{eqb-false}
@@ -10,7 +10,7 @@ use Rattle.refusal.proofs.Picked.{on-pick}
 use Rattle.reading.specs.declared.Second.{Second}
 use Rattle.vehicle.specs.declared.Vehicle.{Vehicle}
 use Rattle.attempt.specs.declared.SettlingCounts.{SettlingCounts}
-use Rattle.attempt.specs.Counting.{bump, inRow, inAll}
+use Rattle.attempt.specs.Counting.{inRow, inAll}
 use Rattle.attempt.specs.Settling.{readyCounted, grown, outCounted, begunAnew, watched, settledOne, settledTwo, secondOne, secondTwo}
 use Rattle.attempt.proofs.Tests.{or-left, or-right}
 

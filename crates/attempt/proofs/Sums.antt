@@ -1,8 +1,6 @@
 -- "Sum 600: neither ready nor void; 599: void." Assumes nothing.
-use Prim.Native.Nat.{ℕ}
 use mathlib.Core.Bool.{Bool, true, false, _&&_}
 use mathlib.Core.Path.{_≡_, refl}
-use lib.Dec.{ltb}
 use Rattle.reading.specs.declared.Second.{Second}
 use Rattle.correction.specs.Dilution.{dilutionSum}
 use Rattle.vehicle.specs.declared.Vehicle.{Vehicle}

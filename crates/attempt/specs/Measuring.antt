@@ -3,7 +3,6 @@ use Prim.Native.Nat.{ℕ}
 use mathlib.Core.Bool.{Bool, true, false, not, _||_}
 use lib.Dec.{eqb}
 use Rattle.refusal.specs.Choice.{pick}
-use Rattle.attempt.specs.declared.WindowCounts.{WindowCounts}
 use Rattle.attempt.specs.declared.MeasuringCounts.{MeasuringCounts}
 use Rattle.attempt.specs.Counting.{bump, inRow, inAll}
 

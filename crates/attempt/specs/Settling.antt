@@ -1,5 +1,4 @@
 -- Step 4: the counts of settling, n, g, u and w, in mode 1 and in mode 2.
-use Prim.Native.Nat.{ℕ}
 use mathlib.Core.Bool.{Bool, _&&_, _||_, not}
 use lib.Dec.{leb, eqb}
 use Rattle.refusal.specs.Choice.{pick}

@@ -1,26 +1,19 @@
 -- What the plain history's answer to one event says of the table's rows, of the locks and of the steps. Assumes nothing.
-use Prim.Native.Nat.{ℕ, suc, _+_, _≤_, _<_, min}
+use Prim.Native.Nat.{ℕ, _≤_}
 use native.Mathlib.Omega.{arith}
-use mathlib.Core.Bool.{Bool, true, false, true≢false, false≢true, not, _&&_, _||_}
-use mathlib.Core.Path.{_≡_, refl, ap, sym, _∙_, subst, subst⁻¹}
+use mathlib.Core.Bool.{true, false, false≢true, not}
+use mathlib.Core.Path.{_≡_, refl, ap, sym, _∙_}
 use mathlib.Core.Logic.{_↔_}
-use mathlib.Core.List.{List, [], _∷_}
+use mathlib.Core.List.{List}
 use mathlib.Core.Option.{Option, none, some}
-use borrow.Author.Tests.{eqb-true, eq-eqb, not-false, leb-true, le-ltb}
-use lib.Dec.{leb, ltb, eqb}
+use borrow.Author.Tests.{eqb-true, not-false, le-ltb}
+use lib.Dec.{ltb, eqb}
 use Rattle.refusal.specs.declared.Refusal.{Refusal}
-use Rattle.reading.specs.declared.Readings.{Readings}
-use Rattle.reading.specs.declared.Second.{Second as Units}
-use Rattle.reading.specs.declared.Converted.{Converted}
-use Rattle.reading.specs.declared.Converted.the-variants as converted
-use Rattle.reading.specs.Units.{secondOf}
 use Rattle.correction.specs.Humidity.{saturationFit}
 use Rattle.vehicle.specs.declared.Settings.{Settings}
-use Rattle.vehicle.specs.declared.Vehicle.{Vehicle}
 use Rattle.vehicle.specs.declared.Mode.{Mode}
-use Rattle.vehicle.specs.declared.Mode.the-variants.{One, Two}
+use Rattle.vehicle.specs.declared.Mode.the-variants.{Two}
 use Rattle.vehicle.specs.Settings.{unfitPlace}
-use Rattle.vehicle.specs.Checked.{vehicleOf}
 use Rattle.loaded_test.specs.declared.Verdict.{Verdict}
 use Rattle.loaded_test.specs.declared.Did.{Did}
 use Rattle.loaded_test.specs.declared.Next.{Next}
@@ -28,83 +21,17 @@ use Rattle.loaded_test.specs.declared.Next.the-variants.{GoesOn, Rests, RestEnd
 use Rattle.loaded_test.specs.declared.Answer.{Answer as TestAnswer}
 use Rattle.loaded_test.specs.declared.Answer.the-variants as test-answer
 use Rattle.loaded_test.specs.declared.Test.{Test}
-use Rattle.loaded_test.specs.Log.{Input, aSecond, aStop, Entry, step, replay, logged, logOf}
-use Rattle.loaded_test.specs.Claim.{modeAfter, modeIn, Measures, none as measuresNone, more as measuresMore, Earned, PassClaim}
-use Rattle.loaded_test.proofs.Passing.{passes}
+use Rattle.loaded_test.specs.Log.{Input, step}
 use Rattle.bench.specs.declared.Answer.{Answer}
 use Rattle.bench.specs.declared.Answer.the-variants as answer
-use Rattle.bench.specs.declared.Bench.{Bench}
 use Rattle.locks.specs.declared.Event.{Event}
-use Rattle.locks.specs.declared.Event.the-variants.{
-  PowerOn,
-  ClockSetting,
-  WarmUp,
-  Calibration,
-  Try,
-  AuthorityLock,
-  AuthorityUnlock,
-  Upload,
-  Start,
-  Second,
-  Stop,
-}
-use Rattle.locks.specs.Events.{kindOf, clockOf}
-use Rattle.locks.specs.Accepted.{Accepted, accepted, since, latestOf}
-use Rattle.locks.specs.Locks.{verdictsIn, unsentIn, lockOf}
-use Rattle.bench.specs.History.{History, freshHistory, runs}
-use Rattle.bench.specs.Causes.{
-  Cause,
-  settingAt,
-  saturationBad,
-  causeBad,
-  automaticOf,
-  automaticIn,
-  readingAt,
-  lockAt,
-  causes,
-  firstCause,
-}
-use Rattle.bench.specs.Telling.{
-  secondInput,
-  inputOf,
-  verdictNext,
-  verdictTold,
-  endedBy,
-  stepTaken,
-  outcomeOf,
-  acceptance,
-  added,
-  judged,
-  tell,
-  historyAfter,
-  historyAnswers,
-}
-use Rattle.bench.specs.Passes.{
-  Since,
-  started,
-  seconded,
-  stopped,
-  Reads,
-  noMore,
-  before,
-  automatic,
-  pass,
-  isModeTwo,
-  modeTwoBegan,
-  PassEarned,
-}
-use Rattle.bench.specs.Demand.{
-  benchAfter,
-  benchAnswers,
-  answerAfter,
-  historyOf,
-  isAccepted,
-  NoneStand,
-  Unlocked,
-  Gives,
-  Demand3,
-  Bounded,
-}
+use Rattle.locks.specs.declared.Event.the-variants.{PowerOn, ClockSetting, WarmUp, Calibration, Try, AuthorityLock, AuthorityUnlock, Upload, Start, Second, Stop}
+use Rattle.locks.specs.Accepted.{Accepted, accepted}
+use Rattle.bench.specs.History.{History, runs}
+use Rattle.bench.specs.Causes.{Cause, settingAt, saturationBad, causeBad, automaticIn, readingAt, lockAt, causes, firstCause}
+use Rattle.bench.specs.Telling.{inputOf, verdictNext, verdictTold, endedBy, stepTaken, outcomeOf, acceptance, added, judged, tell}
+use Rattle.bench.specs.Passes.{automatic}
+use Rattle.bench.specs.Demand.{isAccepted, NoneStand, Unlocked, Gives}
 use Rattle.bench.proofs.Kept.{none-stand, stand-none, unlocked, no-lock}
 
 accepts : (v : Option Verdict) → isAccepted (acceptance v) ≡ true

@@ -1,35 +1,16 @@
 -- Demand 3, whole: the bench's run and the plain history, event by event and over every list. Assumes nothing.
-use Prim.Native.Nat.{ℕ, suc, _+_, _≤_, _<_, min}
+use Prim.Native.Nat.{ℕ, _≤_}
 use native.Mathlib.Omega.{arith}
-use mathlib.Core.Bool.{Bool, true, false, true≢false, false≢true, not, _&&_, _||_}
+use mathlib.Core.Bool.{Bool, true, false, false≢true, _&&_}
 use mathlib.Core.Path.{_≡_, refl, ap, sym, _∙_, subst, subst⁻¹}
-use mathlib.Core.Logic.{_↔_}
 use mathlib.Core.List.{List, [], _∷_}
 use mathlib.Core.Option.{Option, none, some}
-use borrow.Author.Tests.{eqb-true, eq-eqb, not-false, leb-true, le-ltb}
-use lib.Dec.{leb, ltb, eqb}
-use Rattle.refusal.specs.declared.Refusal.{Refusal}
-use Rattle.reading.specs.declared.Readings.{Readings}
-use Rattle.reading.specs.declared.Second.{Second as Units}
-use Rattle.reading.specs.declared.Converted.{Converted}
-use Rattle.reading.specs.declared.Converted.the-variants as converted
-use Rattle.reading.specs.Units.{secondOf}
-use Rattle.correction.specs.Humidity.{saturationFit}
-use Rattle.vehicle.specs.declared.Settings.{Settings}
-use Rattle.vehicle.specs.declared.Vehicle.{Vehicle}
-use Rattle.vehicle.specs.declared.Mode.{Mode}
-use Rattle.vehicle.specs.declared.Mode.the-variants.{One, Two}
-use Rattle.vehicle.specs.Settings.{unfitPlace}
+use borrow.Author.Tests.{leb-true}
+use lib.Dec.{leb}
 use Rattle.vehicle.specs.Checked.{vehicleOf}
-use Rattle.loaded_test.specs.declared.Verdict.{Verdict}
-use Rattle.loaded_test.specs.declared.Did.{Did}
-use Rattle.loaded_test.specs.declared.Next.{Next}
-use Rattle.loaded_test.specs.declared.Next.the-variants.{GoesOn, Rests, RestEnded, ModeTwo, Ends}
-use Rattle.loaded_test.specs.declared.Answer.{Answer as TestAnswer}
-use Rattle.loaded_test.specs.declared.Answer.the-variants as test-answer
 use Rattle.loaded_test.specs.declared.Test.{Test}
-use Rattle.loaded_test.specs.Log.{Input, aSecond, aStop, Entry, step as testStep, replay, logged, logOf}
-use Rattle.loaded_test.specs.Claim.{modeAfter, modeIn, Measures, none as measuresNone, more as measuresMore, Earned, PassClaim}
+use Rattle.loaded_test.specs.Log.{replay}
+use Rattle.loaded_test.specs.Claim.{Earned}
 use Rattle.loaded_test.specs.Laws.{Bounded as TestBounded}
 use Rattle.loaded_test.proofs.Passing.{bounded as test-within}
 use Rattle.bench.specs.declared.Answer.{Answer}
@@ -37,79 +18,16 @@ use Rattle.bench.specs.declared.Answer.the-variants as answer
 use Rattle.bench.specs.declared.Bench.{Bench}
 use Rattle.bench.specs.declared.Opened.{Opened}
 use Rattle.locks.specs.declared.Event.{Event}
-use Rattle.locks.specs.declared.Event.the-variants.{
-  PowerOn,
-  ClockSetting,
-  WarmUp,
-  Calibration,
-  Try,
-  AuthorityLock,
-  AuthorityUnlock,
-  Upload,
-  Start,
-  Second,
-  Stop,
-}
-use Rattle.locks.specs.Events.{kindOf, clockOf}
+use Rattle.locks.specs.declared.Event.the-variants.{Start}
 use Rattle.locks.specs.Accepted.{Accepted, accepted, since, latestOf}
-use Rattle.locks.specs.Locks.{verdictsIn, unsentIn, lockOf}
+use Rattle.locks.specs.Locks.{verdictsIn, unsentIn}
 use Rattle.bench.specs.History.{History, freshHistory, runs}
-use Rattle.bench.specs.Causes.{
-  Cause,
-  settingAt,
-  saturationBad,
-  causeBad,
-  automaticOf,
-  automaticIn,
-  readingAt,
-  lockAt,
-  causes,
-  firstCause,
-}
-use Rattle.bench.specs.Telling.{
-  secondInput,
-  inputOf,
-  verdictNext,
-  verdictTold,
-  endedBy,
-  stepTaken,
-  outcomeOf,
-  acceptance,
-  added,
-  judged,
-  tell,
-  historyAfter,
-  historyAnswers,
-}
+use Rattle.bench.specs.Causes.{automaticOf}
+use Rattle.bench.specs.Telling.{tell, historyAfter, historyAnswers}
 use Rattle.bench.specs.Stepping.{step, freshBench, parametersFit, openedOf}
-use Rattle.bench.specs.Passes.{
-  Since,
-  started,
-  seconded,
-  stopped,
-  Reads,
-  noMore,
-  before,
-  automatic,
-  pass,
-  isModeTwo,
-  modeTwoBegan,
-  PassEarned,
-}
-use Rattle.bench.specs.Demand.{
-  benchAfter,
-  benchAnswers,
-  answerAfter,
-  historyOf,
-  isAccepted,
-  NoneStand,
-  Unlocked,
-  Gives,
-  Demand3,
-  Bounded,
-  Opens,
-}
-use Rattle.locks.proofs.Kept.{locksOf, fresh-of, wrong-most, unsent-same}
+use Rattle.bench.specs.Passes.{automatic, pass, PassEarned}
+use Rattle.bench.specs.Demand.{benchAfter, benchAnswers, answerAfter, historyOf, Gives, Demand3, Bounded, Opens}
+use Rattle.locks.proofs.Kept.{fresh-of, wrong-most, unsent-same}
 use Rattle.bench.proofs.Summary.{testOr, summary}
 use Rattle.bench.proofs.Sound.{Follows, Runs, Sound}
 use Rattle.bench.proofs.Tied.{tied}

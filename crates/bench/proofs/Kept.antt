@@ -1,12 +1,12 @@
 -- What holds of the plain history is kept by every event. Assumes nothing.
-use Prim.Native.Nat.{ℕ, suc, _+_, _≤_, _<_}
+use Prim.Native.Nat.{ℕ, _≤_, _<_}
 use native.Mathlib.Omega.{arith}
-use mathlib.Core.Bool.{Bool, true, false, true≢false, not, _&&_, _||_}
-use mathlib.Core.Path.{_≡_, refl, ap, sym, _∙_, subst, subst⁻¹}
+use mathlib.Core.Bool.{Bool, true, false, true≢false, not}
+use mathlib.Core.Path.{_≡_, refl, ap, sym, _∙_, subst}
 use mathlib.Core.List.{List, [], _∷_}
 use mathlib.Core.Option.{Option, none, some}
-use borrow.Author.Tests.{eqb-false, eqb-true, ne-eqb, not-true, not-false}
-use lib.Dec.{leb, ltb, eqb}
+use borrow.Author.Tests.{eqb-false, eqb-true, not-false}
+use lib.Dec.{leb, eqb}
 use Rattle.refusal.specs.Choice.{pick}
 use Rattle.refusal.specs.declared.Refusal.{Refusal}
 use Rattle.reading.specs.declared.Readings.{Readings}
@@ -24,66 +24,18 @@ use Rattle.loaded_test.specs.declared.Next.{Next}
 use Rattle.loaded_test.specs.declared.Next.the-variants.{GoesOn, Rests, RestEnded, ModeTwo, Ends}
 use Rattle.loaded_test.specs.declared.Answer.the-variants.{Told}
 use Rattle.loaded_test.specs.declared.Test.{Test}
-use Rattle.loaded_test.specs.declared.Stepped.{Stepped}
-use Rattle.loaded_test.specs.State.{began}
 use Rattle.loaded_test.specs.Steps.{begin, begunBy, causeFit, second, stop}
 use Rattle.loaded_test.specs.Log.{Input, aSecond, aStop, Entry, step, replay, logged, logOf}
 use Rattle.loaded_test.specs.Going.{hasEnded, endsIn, Goes}
 use Rattle.loaded_test.proofs.Going.{second-goes, stop-goes}
 use Rattle.locks.specs.declared.Event.{Event}
-use Rattle.locks.specs.declared.Event.the-variants.{
-  PowerOn,
-  ClockSetting,
-  WarmUp,
-  Calibration,
-  Try,
-  AuthorityLock,
-  AuthorityUnlock,
-  Upload,
-  Start,
-  Second,
-  Stop,
-}
-use Rattle.locks.specs.Events.{kindOf, clockOf, startIn, readingsIn, causeIn}
+use Rattle.locks.specs.declared.Event.the-variants.{PowerOn, ClockSetting, WarmUp, Calibration, Try, AuthorityLock, AuthorityUnlock, Upload, Start, Second, Stop}
+use Rattle.locks.specs.Events.{kindOf}
 use Rattle.locks.specs.Accepted.{Accepted, accepted, since, orElse, latestOf}
-use Rattle.locks.specs.Locks.{
-  withVerdict,
-  verdictsIn,
-  unsentIn,
-  unsentLock,
-  locks,
-  firstStanding,
-  lockOf,
-}
+use Rattle.locks.specs.Locks.{withVerdict, verdictsIn, unsentIn, unsentLock, locks, firstStanding, lockOf}
 use Rattle.bench.specs.History.{History, runs}
-use Rattle.bench.specs.Causes.{
-  Cause,
-  settingAt,
-  saturationBad,
-  causeBad,
-  automaticOf,
-  automaticIn,
-  codeOf,
-  readingAt,
-  lockAt,
-  causes,
-  firstCause,
-}
-use Rattle.bench.specs.Telling.{
-  Outcome,
-  leaves,
-  inputOf,
-  secondInput,
-  verdictNext,
-  verdictTold,
-  endedBy,
-  stepTaken,
-  outcomeOf,
-  acceptance,
-  added,
-  judged,
-  tell,
-}
+use Rattle.bench.specs.Causes.{Cause, settingAt, saturationBad, causeBad, automaticOf, automaticIn, codeOf, readingAt, lockAt, causes, firstCause}
+use Rattle.bench.specs.Telling.{secondInput, verdictNext, verdictTold, endedBy, stepTaken, outcomeOf, added, judged, tell}
 use Rattle.bench.specs.Passes.{Since, started, seconded, stopped, automatic}
 use Rattle.bench.specs.Demand.{NoneStand, Unlocked}
 use Rattle.bench.proofs.Sound.{Follows, Runs, Sound}

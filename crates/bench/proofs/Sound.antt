@@ -1,7 +1,7 @@
 -- What holds of the plain history after any list of events: a running test has not ended, and is what document 01's steps make of the
 -- accepted seconds and stops since its start; verdicts since the last upload are at most U, and fewer while a test runs.
 use Prim.Native.Nat.{ℕ, _≤_, _<_}
-use mathlib.Core.Bool.{Bool, true, false}
+use mathlib.Core.Bool.{false}
 use mathlib.Core.Path.{_≡_}
 use mathlib.Core.List.{List}
 use mathlib.Core.Option.{Option, none, some}

@@ -1,16 +1,14 @@
 -- One event: the bench's step on the summary of a history is the summary of what the history tells. Assumes nothing.
-use Prim.Native.Nat.{ℕ, suc, _+_, _≤_, _<_, min}
+use Prim.Native.Nat.{ℕ, _≤_, _<_}
 use native.Mathlib.Omega.{arith}
-use native.Mathlib.Numerals.{add-one}
-use mathlib.Core.Bool.{Bool, true, false, true≢false, false≢true, not, _&&_, _||_}
-use mathlib.Core.Path.{_≡_, refl, ap, sym, _∙_, subst, subst⁻¹}
-use mathlib.Core.List.{List, [], _∷_}
+use mathlib.Core.Bool.{Bool, true, false, true≢false, not, _&&_}
+use mathlib.Core.Path.{_≡_, refl, ap, sym, subst}
+use mathlib.Core.List.{List, _∷_}
 use mathlib.Core.Option.{Option, none, some}
-use borrow.Author.Tests.{eqb-false, ne-eqb}
-use lib.Dec.{leb, ltb, eqb}
+use lib.Dec.{leb, eqb}
 use lib.ListN.{drop}
 use Rattle.refusal.specs.Choice.{pick}
-use Rattle.refusal.specs.Table.{settingUnfit, saturationUnfit, readingUnfit, causeUnfit, startLocked}
+use Rattle.refusal.specs.Table.{settingUnfit, saturationUnfit, readingUnfit, startLocked}
 use Rattle.refusal.specs.declared.Refusal.{Refusal}
 use Rattle.reading.specs.declared.Readings.{Readings}
 use Rattle.reading.specs.declared.Level.{Level}
@@ -27,9 +25,6 @@ use Rattle.vehicle.specs.Checked.{vehicleOf, checkedOf}
 use Rattle.loaded_test.specs.declared.Verdict.{Verdict}
 use Rattle.loaded_test.specs.declared.Next.{Next}
 use Rattle.loaded_test.specs.declared.Next.the-variants.{GoesOn, Rests, RestEnded, ModeTwo, Ends}
-use Rattle.loaded_test.specs.declared.Answer.{Answer as TestAnswer}
-use Rattle.loaded_test.specs.declared.Answer.the-variants as test-answer
-use Rattle.loaded_test.specs.declared.Start.{Start as TestStart}
 use Rattle.loaded_test.specs.declared.Start.the-variants as test-start
 use Rattle.loaded_test.specs.declared.Test.{Test}
 use Rattle.loaded_test.specs.declared.Stepped.{Stepped}
@@ -40,77 +35,18 @@ use Rattle.bench.specs.declared.Bench.{Bench}
 use Rattle.bench.specs.declared.Handled.{Handled}
 use Rattle.bench.specs.declared.Answer.the-variants as answer
 use Rattle.locks.specs.declared.Event.{Event}
-use Rattle.locks.specs.declared.Event.the-variants.{
-  PowerOn,
-  ClockSetting,
-  WarmUp,
-  Calibration,
-  Try,
-  AuthorityLock,
-  AuthorityUnlock,
-  Upload,
-  Start,
-  Second,
-  Stop,
-}
-use Rattle.locks.specs.Events.{kindOf, clockOf, startIn, readingsIn, causeIn}
-use Rattle.locks.specs.declared.Locks.{Locks}
+use Rattle.locks.specs.declared.Event.the-variants.{PowerOn, ClockSetting, WarmUp, Calibration, Try, AuthorityLock, AuthorityUnlock, Upload, Start, Second, Stop}
+use Rattle.locks.specs.Events.{kindOf}
 use Rattle.locks.specs.Accepted.{Accepted, accepted, orElse, latestOf}
 use Rattle.locks.specs.Locks.{lockOf, unsentIn}
-use Rattle.locks.specs.State.{locksAfter, verdictCounted, lockNumber}
+use Rattle.locks.specs.State.{locksAfter, verdictCounted}
 use Rattle.locks.proofs.Kept.{locksOf, locks-after, second-counted, stop-counted, lock-number}
 use Rattle.bench.specs.History.{History, runs}
-use Rattle.bench.specs.Causes.{
-  Cause,
-  outsideTest,
-  insideTest,
-  settingAt,
-  saturationBad,
-  causeBad,
-  automaticOf,
-  automaticIn,
-  codeOf,
-  readingAt,
-  lockAt,
-  causes,
-  firstCause,
-}
-use Rattle.bench.specs.Telling.{
-  secondInput,
-  verdictNext,
-  verdictTold,
-  leaves,
-  endedBy,
-  stepTaken,
-  acceptance,
-  added,
-  judged,
-  tell,
-}
+use Rattle.bench.specs.Causes.{Cause, outsideTest, insideTest, settingAt, saturationBad, causeBad, automaticOf, automaticIn, codeOf, readingAt, lockAt, causes, firstCause}
+use Rattle.bench.specs.Telling.{secondInput, verdictNext, verdictTold, leaves, endedBy, stepTaken, acceptance, added, judged, tell}
 use Rattle.bench.specs.declared.Ruling.{Ruling}
 use Rattle.bench.specs.declared.Ruling.the-variants as ruling
-use Rattle.bench.specs.Stepping.{
-  refused,
-  withTest,
-  withNone,
-  plainTaken,
-  firstRefusal,
-  fitness,
-  lockRuling,
-  startRuling,
-  startJudged,
-  startTaken,
-  judgedWith,
-  followed,
-  answered,
-  secondJudged,
-  secondTaken,
-  stopTaken,
-  taken,
-  deskRuling,
-  ruled,
-  step,
-}
+use Rattle.bench.specs.Stepping.{refused, withTest, withNone, plainTaken, firstRefusal, fitness, lockRuling, startJudged, startTaken, judgedWith, followed, answered, secondTaken, stopTaken, taken, deskRuling, ruled, step}
 use Rattle.bench.proofs.Summary.{testOr, summary, summarised}
 use Rattle.bench.proofs.Sound.{Sound, Runs}
 

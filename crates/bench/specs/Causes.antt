@@ -1,28 +1,18 @@
 -- The rows of document 01's refusal table that can refuse an event, in their order: "Events: 11, 12 or 13, then 4, 5, 15 or 8, then 14."
 -- They judge by V, U and the history alone.
 use Prim.Native.Nat.{ℕ}
-use mathlib.Core.Bool.{Bool, true, false, not, _&&_, _||_}
+use mathlib.Core.Bool.{Bool, false, not, _&&_}
 use mathlib.Core.List.{List, [], _∷_}
 use mathlib.Core.Option.{Option, none, some}
 use lib.Dec.{ltb, leb, eqb}
 use Rattle.refusal.specs.Choice.{pick}
-use Rattle.refusal.specs.Table.{
-  clockEarlier,
-  testRunning,
-  noTest,
-  settingUnfit,
-  saturationUnfit,
-  causeUnfit,
-  readingUnfit,
-  startLocked,
-}
+use Rattle.refusal.specs.Table.{clockEarlier, testRunning, noTest, settingUnfit, saturationUnfit, causeUnfit, readingUnfit, startLocked}
 use Rattle.refusal.specs.declared.Refusal.{Refusal}
 use Rattle.reading.specs.declared.Readings.{Readings}
 use Rattle.reading.specs.declared.Converted.{Converted}
 use Rattle.reading.specs.declared.Converted.the-variants as converted
 use Rattle.reading.specs.Units.{secondOf}
 use Rattle.correction.specs.Humidity.{saturationFit}
-use Rattle.vehicle.specs.declared.Settings.{Settings}
 use Rattle.vehicle.specs.Settings.{unfitPlace}
 use Rattle.loaded_test.specs.Steps.{causeFit}
 use Rattle.locks.specs.declared.Event.{Event}

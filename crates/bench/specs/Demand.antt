@@ -1,11 +1,11 @@
 -- Demand 3: one claim about the list of events, of any kinds in any order, from a fresh bench of fit V and U.
 -- The bench stands in it only by the answers of its run; what these must be is read from the plain history.
-use Prim.Native.Nat.{ℕ, _≤_, _<_}
+use Prim.Native.Nat.{ℕ, _≤_}
 use mathlib.Core.Bool.{Bool, true, false}
 use mathlib.Core.Path.{_≡_}
 use mathlib.Core.Logic.{_↔_}
 use mathlib.Core.List.{List, [], _∷_}
-use mathlib.Core.Option.{Option, none, some}
+use mathlib.Core.Option.{none, some}
 use Rattle.refusal.specs.declared.Refusal.{Refusal}
 use Rattle.correction.specs.Humidity.{saturationFit}
 use Rattle.vehicle.specs.declared.Settings.{Settings}
@@ -24,15 +24,7 @@ use Rattle.locks.specs.declared.Event.{Event}
 use Rattle.locks.specs.declared.Event.the-variants.{Start}
 use Rattle.bench.specs.declared.Opened.{Opened}
 use Rattle.locks.specs.Accepted.{Accepted}
-use Rattle.locks.specs.Locks.{
-  notWarm,
-  inactive,
-  notCalibrated,
-  notSignedIn,
-  passwordLock,
-  authorityLock,
-  unsentLock,
-}
+use Rattle.locks.specs.Locks.{notWarm, inactive, notCalibrated, notSignedIn, passwordLock, authorityLock, unsentLock}
 use Rattle.bench.specs.History.{History, freshHistory}
 use Rattle.bench.specs.Causes.{Cause, causes, firstCause, automaticIn}
 use Rattle.bench.specs.Telling.{inputOf, historyAfter, historyAnswers}

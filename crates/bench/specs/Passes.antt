@@ -12,8 +12,7 @@ use Rattle.reading.specs.declared.Second.{Second as Units}
 use Rattle.reading.specs.declared.Converted.the-variants as converted
 use Rattle.reading.specs.Units.{secondOf}
 use Rattle.vehicle.specs.declared.Settings.{Settings}
-use Rattle.vehicle.specs.declared.Mode.the-variants.{One, Two}
-use Rattle.vehicle.specs.declared.Vehicle.{Vehicle}
+use Rattle.vehicle.specs.declared.Mode.the-variants.{Two}
 use Rattle.vehicle.specs.declared.Checked.the-variants.{Fit}
 use Rattle.vehicle.specs.Checked.{vehicleOf, checkedOf}
 use Rattle.loaded_test.specs.declared.Word.the-variants.{Pass}

@@ -23,19 +23,7 @@ use Rattle.loaded_test.specs.State.{noneRunning}
 use Rattle.loaded_test.specs.Steps.{begin, second, stop}
 use Rattle.locks.specs.declared.Locks.{Locks}
 use Rattle.locks.specs.declared.Event.{Event}
-use Rattle.locks.specs.declared.Event.the-variants.{
-  PowerOn,
-  ClockSetting,
-  WarmUp,
-  Calibration,
-  Try,
-  AuthorityLock,
-  AuthorityUnlock,
-  Upload,
-  Start,
-  Second,
-  Stop,
-}
+use Rattle.locks.specs.declared.Event.the-variants.{PowerOn, ClockSetting, WarmUp, Calibration, Try, AuthorityLock, AuthorityUnlock, Upload, Start, Second, Stop}
 use Rattle.locks.specs.Events.{kindOf, clockOf, clockAfter}
 use Rattle.locks.specs.State.{freshLocks, locksAfter, verdictCounted, lockNumber}
 use Rattle.bench.specs.declared.Desk.{Desk}

@@ -12,26 +12,13 @@ use Rattle.loaded_test.specs.declared.Next.{Next}
 use Rattle.loaded_test.specs.declared.Next.the-variants.{GoesOn, Rests, RestEnded, ModeTwo, Ends}
 use Rattle.loaded_test.specs.declared.Answer.{Answer as TestAnswer}
 use Rattle.loaded_test.specs.declared.Answer.the-variants as test-answer
-use Rattle.loaded_test.specs.declared.Stepped.{Stepped}
 use Rattle.loaded_test.specs.declared.Test.{Test}
 use Rattle.loaded_test.specs.Steps.{begin}
 use Rattle.loaded_test.specs.Log.{Input, aSecond, aStop, step}
 use Rattle.bench.specs.declared.Answer.{Answer}
 use Rattle.bench.specs.declared.Answer.the-variants as answer
 use Rattle.locks.specs.declared.Event.{Event}
-use Rattle.locks.specs.declared.Event.the-variants.{
-  PowerOn,
-  ClockSetting,
-  WarmUp,
-  Calibration,
-  Try,
-  AuthorityLock,
-  AuthorityUnlock,
-  Upload,
-  Start,
-  Second,
-  Stop,
-}
+use Rattle.locks.specs.declared.Event.the-variants.{PowerOn, ClockSetting, WarmUp, Calibration, Try, AuthorityLock, AuthorityUnlock, Upload, Start, Second, Stop}
 use Rattle.locks.specs.Events.{clockAfter}
 use Rattle.locks.specs.Accepted.{Accepted, accepted}
 use Rattle.bench.specs.History.{History}

@@ -1,11 +1,11 @@
 -- Rest and settling leave all that holds of a test standing. Assumes nothing.
-use Prim.Native.Nat.{ℕ, suc, _+_, _-_, _≤_, _<_, min}
+use Prim.Native.Nat.{ℕ, _-_, _≤_, _<_}
 use native.Mathlib.Omega.{arith}
-use mathlib.Core.Bool.{Bool, true, false, not, _&&_, _||_}
-use mathlib.Core.Path.{_≡_, refl, sym, ap, _∙_, subst, subst⁻¹}
+use mathlib.Core.Bool.{Bool, false, not, _&&_}
+use mathlib.Core.Path.{_≡_, refl, ap, subst, subst⁻¹}
 use mathlib.Core.List.{List, [], _∷_}
 use lib.Dec.{leb, ltb, eqb}
-use borrow.Author.Tests.{eqb-true, eqb-false, leb-true, leb-false}
+use borrow.Author.Tests.{eqb-false, leb-false}
 use Rattle.refusal.specs.Choice.{pick}
 use Rattle.refusal.proofs.Picked.{on-pick}
 use Rattle.reading.specs.declared.Second.{Second}
@@ -23,19 +23,18 @@ use Rattle.loaded_test.specs.declared.VoidCounts.{VoidCounts}
 use Rattle.attempt.specs.declared.SettlingCounts.{SettlingCounts}
 use Rattle.loaded_test.specs.declared.Progress.{Progress}
 use Rattle.loaded_test.specs.State.{emptied, turn, withCounted, withResting, withSettling}
-use Rattle.attempt.specs.Counting.{bump, inRow, inAll}
-use Rattle.loaded_test.specs.Voids.{voided, stepFive}
+use Rattle.attempt.specs.Counting.{inRow}
+use Rattle.loaded_test.specs.Voids.{voided}
 use Rattle.loaded_test.specs.Rest.{restCount, rested}
-use Rattle.attempt.specs.Settling.{noSettling, secondOne, secondTwo}
-use Rattle.attempt.specs.Measuring.{noMeasuring}
+use Rattle.attempt.specs.Settling.{secondOne, secondTwo}
 use Rattle.attempt.proofs.Tests.{nonsense, or-left}
 use Rattle.attempt.proofs.Most.{row-most, Settled, first-most, next-most}
 use Rattle.loaded_test.specs.Settling.{measuringFrom, settlingLeft, closedOne, closedTwo, settlesIn, settles}
 use Rattle.loaded_test.specs.Log.{Entry, Input}
 use Rattle.loaded_test.specs.Claim.{modeAfter, modeIn, begins, voids, InAttempt, begun, goesOn, none, noSecond}
 use Rattle.loaded_test.specs.Windows.{outRow, longestOut, outAll, passingIn, failingIn, speedAt}
-use Rattle.loaded_test.specs.Laws.{Bounded, voidAdded, voidsKept, voidsIn, ninesIn}
-use Rattle.loaded_test.proofs.Holding.{mostSettling, someValid, tallyOf, Told, Open, AtStage, Claims, Good, entry, Resting}
+use Rattle.loaded_test.specs.Laws.{voidAdded, voidsKept, voidsIn}
+use Rattle.loaded_test.proofs.Holding.{mostSettling, someValid, tallyOf, Told, Open, AtStage, Good, entry, Resting}
 use Rattle.loaded_test.proofs.Voiding.{going-ends-not, silent, voided-good, five-good}
 
 ended-ends-not : (y : Verdict) → RestEnded ≡ Ends y → ⊥

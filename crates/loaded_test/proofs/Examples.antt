@@ -1,5 +1,4 @@
 -- The pass claim is not empty: document 01's 36 rows tell a pass, computed. Assumes nothing.
-use Prim.Native.Nat.{ℕ}
 use mathlib.Core.Bool.{true, false}
 use mathlib.Core.Path.{_≡_, refl}
 use mathlib.Core.List.{List, [], _∷_}
@@ -26,7 +25,7 @@ use Rattle.loaded_test.specs.Voids.{stepFive}
 use Rattle.loaded_test.specs.Settling.{settlingLeft, closedOne, settlesIn, settles}
 use Rattle.loaded_test.specs.Measuring.{closed, concluded, windowTaken, windowJudged, windowKept, judged, measures}
 use Rattle.loaded_test.specs.Steps.{taken, measured, inAttempt, secondAt, second}
-use Rattle.loaded_test.specs.Log.{Entry, Input, aSecond, replay, logged, logOf}
+use Rattle.loaded_test.specs.Log.{Entry, aSecond, replay, logged, logOf}
 
 -- Motorcycle of 2005, 125 ml, automatic, with its limits, targets and loads, and k of 50 %, 2339 Pa, 101.3 kPa.
 abbrev motorcycle : Vehicle

@@ -12,33 +12,28 @@ use Rattle.vehicle.specs.declared.Vehicle.{Vehicle}
 use Rattle.vehicle.specs.declared.Mode.{Mode}
 use Rattle.vehicle.specs.declared.Mode.the-variants.{One, Two}
 use Rattle.window.specs.declared.Measured as window
-use Rattle.window.specs.Measuring.{measuredOf}
 use Rattle.attempt.specs.declared.Screen.{Screen}
 use Rattle.attempt.specs.declared.Screen.the-variants.{Waits, Flawed, Clear}
 use Rattle.attempt.specs.declared.Ending.{Ending}
 use Rattle.attempt.specs.declared.Ending.the-variants.{NotYet, Passes, ModeEnds, Inconclusive}
 use Rattle.attempt.specs.declared.SettlingCounts.{SettlingCounts}
 use Rattle.attempt.specs.declared.MeasuringCounts.{MeasuringCounts}
-use Rattle.attempt.specs.Screening.{screened}
-use Rattle.attempt.specs.Settling.{secondOne, secondTwo}
-use Rattle.attempt.specs.Measuring.{tallied, restarts}
-use Rattle.attempt.specs.Ending.{endingRule}
+use Rattle.attempt.specs.Measuring.{restarts}
 use Rattle.attempt.proofs.Tests.{nonsense}
 use Rattle.loaded_test.specs.declared.Word.{Word}
 use Rattle.loaded_test.specs.declared.Verdict.{Verdict}
 use Rattle.loaded_test.specs.declared.Did.{Did}
 use Rattle.loaded_test.specs.declared.Next.{Next}
-use Rattle.loaded_test.specs.declared.Next.the-variants.{GoesOn, Ends}
+use Rattle.loaded_test.specs.declared.Next.the-variants.{Ends}
 use Rattle.loaded_test.specs.declared.Stage.{Stage}
 use Rattle.loaded_test.specs.declared.Stage.the-variants.{Settling, Measuring, Rest, Ended}
 use Rattle.loaded_test.specs.declared.VoidCounts.{VoidCounts}
 use Rattle.loaded_test.specs.declared.Progress.{Progress}
 use Rattle.loaded_test.specs.declared.Turn.{Turn}
 use Rattle.loaded_test.specs.declared.Test.{Test}
-use Rattle.loaded_test.specs.declared.Stepped.{Stepped}
-use Rattle.loaded_test.specs.State.{withMeasuring, verdictOf, stepped, steppedWith, refused}
+use Rattle.loaded_test.specs.State.{withMeasuring, verdictOf, stepped, refused}
 use Rattle.loaded_test.specs.Voids.{ended, modeEnded, voidCounted, voidNext, twiceInconclusive, thirdVoid, voidFollowed, voided, stepFive}
-use Rattle.loaded_test.specs.Rest.{restCount, rested}
+use Rattle.loaded_test.specs.Rest.{rested}
 use Rattle.loaded_test.specs.Settling.{settlingLeft, closedOne, closedTwo, settlesIn, settles}
 use Rattle.loaded_test.specs.Measuring.{closed, concluded, judged, measures}
 use Rattle.loaded_test.specs.Steps.{taken, measured, inAttempt, secondAt, second, causeFit, stopTaken, stop}

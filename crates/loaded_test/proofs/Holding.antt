@@ -1,7 +1,7 @@
 -- What holds of a test's state and of its log after every input: by stage, and the claims on the newest entry.
-use Prim.Native.Nat.{ℕ, suc, _+_, _-_, _≤_, _<_}
+use Prim.Native.Nat.{ℕ, _+_, _-_, _≤_, _<_}
 use native.Mathlib.Omega.{arith}
-use mathlib.Core.Bool.{Bool, true, false, _||_}
+use mathlib.Core.Bool.{Bool, false, _||_}
 use mathlib.Core.Path.{_≡_}
 use mathlib.Core.List.{List, [], _∷_, _++_, map}
 use lib.ListN.{length, take}
@@ -11,8 +11,6 @@ use Rattle.vehicle.specs.declared.Mode.{Mode}
 use Rattle.vehicle.specs.declared.Mode.the-variants.{One, Two}
 use Rattle.window.specs.declared.Measured.{Measured}
 use Rattle.window.specs.Measuring.{measuredOf}
-use Rattle.loaded_test.specs.declared.Did.{Did}
-use Rattle.loaded_test.specs.declared.Next.{Next}
 use Rattle.loaded_test.specs.declared.Stage.{Stage}
 use Rattle.loaded_test.specs.declared.Stage.the-variants.{Settling, Measuring, Rest, Ended}
 use Rattle.attempt.specs.declared.MeasuringCounts.{MeasuringCounts}

@@ -1,38 +1,34 @@
 -- The pass claim and the laws, for every list of seconds and stops from the beginning of a test. Assumes nothing.
-use Prim.Native.Nat.{ℕ, suc, _+_, _-_, _≤_, _<_, min}
+use Prim.Native.Nat.{ℕ, _+_, _-_, _≤_}
 use native.Mathlib.Omega.{arith}
-use mathlib.Core.Bool.{Bool, true, false, _&&_, _||_}
+use mathlib.Core.Bool.{Bool, true, false, _||_}
 use mathlib.Core.Path.{_≡_, refl, sym, ap, _∙_, subst, subst⁻¹}
 use mathlib.Core.List.{List, [], _∷_, _++_, map}
 use lib.Dec.{leb, eqb}
-use lib.ListN.{length, take, length-map, length-take}
+use lib.ListN.{length, take, length-take}
 use lib.Seq.{take-all, take-take, take-append-le}
 use borrow.Author.Tests.{eqb-true}
 use Rattle.refusal.specs.Choice.{pick}
-use Rattle.refusal.specs.Table.{noTest, causeUnfit}
 use Rattle.refusal.proofs.Picked.{on-pick}
 use Rattle.reading.specs.declared.Second.{Second}
 use Rattle.vehicle.specs.declared.Vehicle.{Vehicle}
 use Rattle.window.specs.declared.Measured.{Measured}
 use Rattle.window.specs.Measuring.{measuredOf}
-use Rattle.loaded_test.specs.declared.Word.{Word}
 use Rattle.loaded_test.specs.declared.Did.the-variants.{Nothing}
-use Rattle.loaded_test.specs.declared.Next.the-variants.{GoesOn}
 use Rattle.loaded_test.specs.declared.Stage.{Stage}
 use Rattle.loaded_test.specs.declared.Stage.the-variants.{Settling, Measuring, Rest, Ended}
 use Rattle.attempt.specs.declared.Screen.{Screen}
-use Rattle.attempt.specs.declared.Screen.the-variants.{Waits, Flawed, Clear}
+use Rattle.attempt.specs.declared.Screen.the-variants.{Clear}
 use Rattle.loaded_test.specs.declared.Progress.{Progress}
-use Rattle.loaded_test.specs.declared.Turn.{Turn}
 use Rattle.loaded_test.specs.declared.Test.{Test}
-use Rattle.loaded_test.specs.State.{turn, nothing, withCounted, refused, stepped, began}
+use Rattle.loaded_test.specs.State.{turn, nothing, refused}
 use Rattle.loaded_test.specs.Going.{hasEnded}
 use Rattle.loaded_test.specs.Voids.{voided}
 use Rattle.attempt.specs.Screening.{waits, diluted, screened}
 use Rattle.loaded_test.specs.Steps.{counted, taken, measured, inAttempt, secondAt, second, isResting, causeFit, stopTaken, stop}
 use Rattle.loaded_test.specs.Windows.{windowOf}
 use Rattle.loaded_test.specs.Log.{Entry, Input, aSecond, aStop, step, replay, logged, logOf}
-use Rattle.loaded_test.specs.Claim.{modeIn, voids, Clean, InAttempt, atStart, goesOn, PassClaim}
+use Rattle.loaded_test.specs.Claim.{modeIn, voids, Clean, atStart, goesOn, PassClaim}
 use Rattle.loaded_test.specs.Laws.{Bounded, voidsIn, ninesIn, VoidClaim, IncompleteClaim, FailClaim, LastTen}
 use Rattle.attempt.proofs.Tests.{nonsense, and-left}
 use Rattle.loaded_test.proofs.Holding.{mostSettling, settling-most, Told, Open, Settles, Runs, Resting, AtStage, Claims, Good, entry, Stands, Kept}

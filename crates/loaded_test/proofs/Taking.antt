@@ -1,11 +1,11 @@
 -- A measured second leaves all that holds of a test standing, and a pass is earned. Assumes nothing.
-use Prim.Native.Nat.{ℕ, suc, _+_, _-_, _≤_, _<_, min, max}
+use Prim.Native.Nat.{ℕ, suc, _-_, _≤_, _<_}
 use native.Mathlib.Omega.{arith}
-use mathlib.Core.Bool.{Bool, true, false, not, _&&_, _||_}
+use mathlib.Core.Bool.{Bool, true, false, not}
 use mathlib.Core.Path.{_≡_, refl, sym, ap, _∙_, subst, subst⁻¹}
-use mathlib.Core.List.{List, [], _∷_, _++_, map}
-use mathlib.Core.Logic.{_⊎_, inl, inr}
-use lib.Dec.{leb, eqb}
+use mathlib.Core.List.{List, [], _∷_, map}
+use mathlib.Core.Logic.{inr}
+use lib.Dec.{eqb}
 use lib.ListN.{length, take}
 use lib.Seq.{take-take}
 use borrow.Author.Tests.{eqb-false}
@@ -13,34 +13,31 @@ use Rattle.refusal.specs.Choice.{pick}
 use Rattle.refusal.proofs.Picked.{on-pick}
 use Rattle.reading.specs.declared.Second.{Second}
 use Rattle.vehicle.specs.declared.Vehicle.{Vehicle}
-use Rattle.vehicle.specs.declared.Mode.{Mode}
 use Rattle.window.specs.declared.Measured as window
 use Rattle.window.specs.Measuring.{measuredOf}
 use Rattle.window.specs.Judging.{windowPasses}
-use Rattle.loaded_test.specs.declared.Word.the-variants.{Pass, Fail, Incomplete}
+use Rattle.loaded_test.specs.declared.Word.the-variants.{Pass}
 use Rattle.loaded_test.specs.declared.Verdict.{Verdict}
-use Rattle.loaded_test.specs.declared.Did.{Did}
 use Rattle.loaded_test.specs.declared.Did.the-variants.{Measured, Restarted, Voided}
-use Rattle.loaded_test.specs.declared.Next.the-variants.{GoesOn, Ends}
+use Rattle.loaded_test.specs.declared.Next.the-variants.{GoesOn}
 use Rattle.loaded_test.specs.declared.Stage.{Stage}
 use Rattle.loaded_test.specs.declared.Stage.the-variants.{Measuring}
 use Rattle.attempt.specs.declared.MeasuringCounts.{MeasuringCounts}
 use Rattle.loaded_test.specs.declared.Progress.{Progress}
 use Rattle.loaded_test.specs.declared.Turn.{Turn}
 use Rattle.attempt.specs.declared.Ending.{Ending}
-use Rattle.attempt.specs.declared.Ending.the-variants.{NotYet, Passes, ModeEnds, Inconclusive}
+use Rattle.attempt.specs.declared.Ending.the-variants.{NotYet, Passes}
 use Rattle.loaded_test.specs.declared.Test.{Test}
-use Rattle.loaded_test.specs.declared.Stepped.{Stepped}
-use Rattle.loaded_test.specs.State.{turn, withCounted, withMeasuring, withVerdict, verdictOf, stepped, steppedWith}
-use Rattle.loaded_test.specs.Voids.{ended, modeEnded, voided, stepFive}
-use Rattle.attempt.specs.Ending.{endingRule, speedHeld}
+use Rattle.loaded_test.specs.State.{turn, withCounted, withMeasuring, stepped, steppedWith}
+use Rattle.loaded_test.specs.Voids.{ended, voided, stepFive}
+use Rattle.attempt.specs.Ending.{speedHeld}
 use Rattle.attempt.specs.Measuring.{noMeasuring, tallied, windowCounted, restarts}
 use Rattle.loaded_test.specs.Measuring.{closed, concluded, windowTaken, windowJudged, judged, measures}
 use Rattle.loaded_test.specs.Windows.{outOf, outRow, longestOut, outAll, passingIn, failingIn, speedAt, endingOf}
 use Rattle.loaded_test.specs.Log.{Entry, Input, aSecond, logged}
-use Rattle.loaded_test.specs.Claim.{modeAfter, modeIn, voids, InAttempt, goesOn, Measures, none, more, Clean, AllClean, noSecond, andClean, NotYetIn, Earned}
+use Rattle.loaded_test.specs.Claim.{modeAfter, modeIn, voids, InAttempt, goesOn, Measures, none, more, Clean, AllClean, noSecond, andClean}
 use Rattle.loaded_test.specs.Laws.{Bounded}
-use Rattle.loaded_test.proofs.Holding.{mostSettling, settling-most, someValid, tallyOf, Told, Open, Running, Runs, AtStage, Claims, Good, entry, Stands, Kept}
+use Rattle.loaded_test.proofs.Holding.{settling-most, someValid, tallyOf, Told, Open, Running, AtStage, Good, Kept}
 use Rattle.loaded_test.proofs.Voiding.{going-ends-not, same-end, fail-pass, incomplete-pass, silent, mode-ended, voided-good, five-good}
 use Rattle.loaded_test.proofs.Approach.{told-on}
 use Rattle.attempt.proofs.Tests.{or-left, or-right}

@@ -1,10 +1,10 @@
 -- The counts of measuring are those counted from the run's seconds: one more second, with its window. Assumes nothing.
-use Prim.Native.Nat.{ℕ, suc, _+_, _-_, _≤_, _<_, min}
+use Prim.Native.Nat.{ℕ, suc, _+_, _-_, _≤_, min}
 use native.Mathlib.Omega.{arith}
-use mathlib.Core.Bool.{Bool, true, false, not, _&&_, _||_}
+use mathlib.Core.Bool.{Bool, true, false, not, _&&_}
 use mathlib.Core.Path.{_≡_, refl, sym, ap, _∙_}
 use mathlib.Core.List.{List, [], _∷_, _++_, map}
-use lib.Dec.{leb, eqb}
+use lib.Dec.{leb}
 use lib.ListN.{length, take, length-map}
 use lib.Seq.{take-take, take-append-le}
 use borrow.Author.Tests.{leb-true}
@@ -15,7 +15,6 @@ use Rattle.vehicle.specs.declared.Mode.{Mode}
 use Rattle.window.specs.declared.Measured.{Measured}
 use Rattle.window.specs.Measuring.{measuredOf, windowValid}
 use Rattle.window.specs.Judging.{windowPasses}
-use Rattle.attempt.specs.declared.MeasuringCounts.{MeasuringCounts}
 use Rattle.attempt.specs.Counting.{bump, inRow, inAll}
 use Rattle.attempt.specs.Measuring.{tallied, windowCounted}
 use Rattle.loaded_test.specs.Measuring.{windowTaken}

@@ -1,10 +1,10 @@
 -- A void, the end of a mode and step 5 leave all that holds of a test standing. Assumes nothing.
-use Prim.Native.Nat.{ℕ, suc, _+_, _-_, _≤_, _<_, min}
+use Prim.Native.Nat.{ℕ, suc, _-_, _≤_, _<_}
 use native.Mathlib.Omega.{arith}
-use mathlib.Core.Bool.{Bool, true, false}
-use mathlib.Core.Path.{_≡_, refl, sym, ap, _∙_, subst, subst⁻¹}
-use mathlib.Core.List.{List, [], _∷_}
-use mathlib.Core.Logic.{_⊎_, inl, inr}
+use mathlib.Core.Bool.{true, false}
+use mathlib.Core.Path.{_≡_, refl, sym, ap, _∙_, subst}
+use mathlib.Core.List.{List, _∷_}
+use mathlib.Core.Logic.{_⊎_, inl}
 use lib.Dec.{eqb}
 use lib.ListN.{length}
 use borrow.Author.Tests.{eqb-true, eqb-false}
@@ -23,14 +23,14 @@ use Rattle.loaded_test.specs.declared.Stage.the-variants.{Settling, Rest
 use Rattle.loaded_test.specs.declared.VoidCounts.{VoidCounts}
 use Rattle.loaded_test.specs.declared.Progress.{Progress}
 use Rattle.loaded_test.specs.declared.Turn.{Turn}
-use Rattle.loaded_test.specs.State.{emptied, noVoids, turn, withVerdict, verdictOf}
+use Rattle.loaded_test.specs.State.{emptied, turn, withVerdict, verdictOf}
 use Rattle.attempt.specs.Counting.{bump, inRow}
 use Rattle.loaded_test.specs.Voids.{ended, modeEnded, voidCounted, voidNext, twiceInconclusive, thirdVoid, voidFollowed, voided, stepFive}
 use Rattle.loaded_test.specs.Log.{Entry, Input}
-use Rattle.loaded_test.specs.Claim.{modeAfter, modeIn, begins, voids, InAttempt, begun}
-use Rattle.loaded_test.specs.Laws.{Bounded, voidAdded, voidsKept, voidsIn, ninesIn, EndsWith, ModeOver, VoidFollows}
+use Rattle.loaded_test.specs.Claim.{modeAfter, modeIn, begins, voids, begun}
+use Rattle.loaded_test.specs.Laws.{Bounded, voidAdded, voidsKept, voidsIn, ninesIn, ModeOver}
 use Rattle.attempt.proofs.Tests.{nonsense}
-use Rattle.loaded_test.proofs.Holding.{mostSettling, Told, Open, AtStage, Claims, Good, entry}
+use Rattle.loaded_test.proofs.Holding.{mostSettling, Told, Claims, Good, entry}
 
 pub going-ends-not : (y : Verdict) → GoesOn ≡ Ends y → ⊥
 going-ends-not y e = let z : _≡_ {A = ℕ} 0 1 = cc in omega arith

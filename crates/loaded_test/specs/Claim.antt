@@ -9,7 +9,6 @@ use Rattle.vehicle.specs.declared.Vehicle.{Vehicle}
 use Rattle.vehicle.specs.declared.Mode.{Mode}
 use Rattle.vehicle.specs.declared.Mode.the-variants.{One, Two}
 use Rattle.loaded_test.specs.declared.Word.the-variants.{Pass}
-use Rattle.loaded_test.specs.declared.Verdict.{Verdict}
 use Rattle.loaded_test.specs.declared.Did.{Did}
 use Rattle.loaded_test.specs.declared.Did.the-variants as did
 use Rattle.loaded_test.specs.declared.Next.{Next}
@@ -17,7 +16,7 @@ use Rattle.loaded_test.specs.declared.Next.the-variants.{GoesOn, Rests, 
 use Rattle.attempt.specs.declared.Ending.the-variants.{NotYet, Passes}
 use Rattle.attempt.specs.Screening.{diluted}
 use Rattle.loaded_test.specs.Windows.{longestOut, outAll, passingIn, failingIn, endingOf}
-use Rattle.loaded_test.specs.Log.{Entry, Input, aSecond}
+use Rattle.loaded_test.specs.Log.{Entry, aSecond}
 
 -- The mode is 2 exactly if mode 2 has begun.
 unfoldable pub modeAfter : Next → Mode → Mode

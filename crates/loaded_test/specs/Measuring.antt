@@ -2,13 +2,12 @@
 use Prim.Native.Nat.{ℕ}
 use mathlib.Core.Bool.{Bool, _&&_}
 use mathlib.Core.List.{List, _∷_}
-use lib.Dec.{leb, eqb}
+use lib.Dec.{leb}
 use lib.ListN.{take}
 use Rattle.refusal.specs.Choice.{pick}
-use Rattle.reading.specs.declared.Second.{Second}
 use Rattle.vehicle.specs.declared.Vehicle.{Vehicle}
 use Rattle.window.specs.declared.Measured.{Measured}
-use Rattle.window.specs.Measuring.{measuredOf, windowValid}
+use Rattle.window.specs.Measuring.{windowValid}
 use Rattle.window.specs.Judging.{windowPasses}
 use Rattle.loaded_test.specs.declared.Word.the-variants.{Pass}
 use Rattle.loaded_test.specs.declared.Did.the-variants as did

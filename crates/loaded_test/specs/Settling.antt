@@ -1,5 +1,4 @@
 -- Step 4: how settling is left, in mode 1 and in mode 2.
-use Prim.Native.Nat.{ℕ}
 use mathlib.Core.Bool.{Bool, _&&_, _||_}
 use lib.Dec.{leb, eqb}
 use Rattle.refusal.specs.Choice.{pick}

@@ -1,12 +1,11 @@
 -- The state of a test: a new attempt, and the state with one of its parts replaced.
 use Prim.Native.Nat.{ℕ}
-use mathlib.Core.Bool.{Bool, true, false}
 use mathlib.Core.List.{List}
 use lib.ListN.{replicate}
 use Rattle.refusal.specs.declared.Refusal.{Refusal}
 use Rattle.vehicle.specs.declared.Vehicle.{Vehicle}
 use Rattle.vehicle.specs.declared.Mode.{Mode}
-use Rattle.vehicle.specs.declared.Mode.the-variants.{One, Two}
+use Rattle.vehicle.specs.declared.Mode.the-variants.{One}
 use Rattle.vehicle.specs.Driving.{blankVehicle}
 use Rattle.window.specs.declared.Measured.{Measured}
 use Rattle.window.specs.Measuring.{blankMeasured}

@@ -5,7 +5,6 @@ use lib.Dec.{leb, eqb}
 use Rattle.refusal.specs.Choice.{pick}
 use Rattle.refusal.specs.Table.{noTest, causeUnfit}
 use Rattle.reading.specs.declared.Second.{Second}
-use Rattle.vehicle.specs.declared.Vehicle.{Vehicle}
 use Rattle.vehicle.specs.declared.Settings.{Settings}
 use Rattle.vehicle.specs.declared.Checked.{Checked}
 use Rattle.vehicle.specs.declared.Checked.the-variants.{Fit, Refused}

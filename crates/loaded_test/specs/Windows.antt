@@ -1,6 +1,6 @@
 -- What is counted from a run of measured seconds, newest first, by the window rule and by the rules on "out". No state of a test occurs here.
-use Prim.Native.Nat.{ℕ, suc, _+_, max}
-use mathlib.Core.Bool.{Bool, true, false, not, _&&_}
+use Prim.Native.Nat.{ℕ, suc, max}
+use mathlib.Core.Bool.{Bool, not, _&&_}
 use mathlib.Core.List.{List, [], _∷_, map}
 use lib.Dec.{leb, eqb}
 use lib.ListN.{length, take}

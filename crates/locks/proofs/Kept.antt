@@ -1,12 +1,12 @@
 -- What the bench keeps is what is read from the accepted events, after every event and verdict, and so is the first lock. Assumes nothing.
 use Prim.Native.Nat.{ℕ, suc, _+_, _≤_, _<_, min}
 use native.Mathlib.Omega.{arith}
-use mathlib.Core.Bool.{Bool, true, false, not, _||_}
+use mathlib.Core.Bool.{Bool, true, false, not}
 use mathlib.Core.Path.{_≡_, refl}
 use mathlib.Core.List.{List, [], _∷_}
 use mathlib.Core.Option.{Option, none, some}
 use borrow.Author.Tests.{le-leb, lt-leb, leb-true, leb-false}
-use lib.Dec.{leb, ltb, eqb}
+use lib.Dec.{leb}
 use Rattle.refusal.specs.Choice.{pick}
 use Rattle.reading.specs.declared.Readings.{Readings}
 use Rattle.loaded_test.specs.declared.Verdict.{Verdict}
@@ -22,58 +22,11 @@ use Rattle.locks.specs.declared.Session.{Session}
 use Rattle.locks.specs.declared.Security.{Security}
 use Rattle.locks.specs.declared.Locks.{Locks}
 use Rattle.locks.specs.declared.Event.{Event}
-use Rattle.locks.specs.declared.Event.the-variants.{
-  PowerOn,
-  ClockSetting,
-  WarmUp,
-  Calibration,
-  Try,
-  AuthorityLock,
-  AuthorityUnlock,
-  Upload,
-  Start,
-  Second,
-  Stop,
-}
+use Rattle.locks.specs.declared.Event.the-variants.{PowerOn, ClockSetting, WarmUp, Calibration, Try, AuthorityLock, AuthorityUnlock, Upload, Start, Second, Stop}
 use Rattle.locks.specs.Events.{calibrationIn, tryIn, Calibrating}
 use Rattle.locks.specs.Accepted.{Accepted, accepted, isKind, since, any, orElse, latestOf, latestClock}
-use Rattle.locks.specs.Locks.{
-  voiding,
-  activity,
-  notWarm,
-  inactive,
-  expired,
-  noneValid,
-  notCalibrated,
-  noneGood,
-  notSignedIn,
-  withTry,
-  triesIn,
-  wrongRow,
-  everInRow,
-  passwordLock,
-  authorityLock,
-  withVerdict,
-  verdictsIn,
-  unsentIn,
-  unsentLock,
-  locks,
-  lockOf,
-}
-use Rattle.locks.specs.State.{
-  calibratedBy,
-  signedBy,
-  triedBy,
-  wrongs,
-  freshLocks,
-  activeAfter,
-  unsentAfter,
-  locksAfter,
-  verdictCounted,
-  calibrationOld,
-  signInOver,
-  lockNumber,
-}
+use Rattle.locks.specs.Locks.{voiding, activity, notWarm, inactive, expired, noneValid, notCalibrated, noneGood, notSignedIn, withTry, triesIn, wrongRow, everInRow, passwordLock, authorityLock, withVerdict, verdictsIn, unsentIn, unsentLock, locks, lockOf}
+use Rattle.locks.specs.State.{calibratedBy, signedBy, wrongs, freshLocks, activeAfter, unsentAfter, locksAfter, verdictCounted, calibrationOld, signInOver, lockNumber}
 
 unfoldable pub calibratedOf : Option Calibrating → Calibrated
 calibratedOf none = No

@@ -1,25 +1,12 @@
 -- The eleven kinds of event (document 01, "Locks of the bench"), and what each carries.
 use Prim.Native.Nat.{ℕ}
-use mathlib.Core.Bool.{Bool}
 use mathlib.Core.Option.{Option, none, some}
 use Rattle.reading.specs.declared.Readings.{Readings}
 use Rattle.vehicle.specs.declared.Settings.{Settings}
 use Rattle.locks.specs.declared.Calibration.{Calibration as Outcome}
 use Rattle.locks.specs.declared.Try.{Try as Tried}
 use Rattle.locks.specs.declared.Event.{Event}
-use Rattle.locks.specs.declared.Event.the-variants.{
-  PowerOn,
-  ClockSetting,
-  WarmUp,
-  Calibration,
-  Try,
-  AuthorityLock,
-  AuthorityUnlock,
-  Upload,
-  Start,
-  Second,
-  Stop,
-}
+use Rattle.locks.specs.declared.Event.the-variants.{PowerOn, ClockSetting, WarmUp, Calibration, Try, AuthorityLock, AuthorityUnlock, Upload, Start, Second, Stop}
 
 -- "Kinds: 1 power-on; 2 clock setting; 3 warm-up finished; 4 calibration; 5 try; 6 authority lock; 7 authority unlock; 8 upload;
 -- 9 start; 10 second; 11 stop"

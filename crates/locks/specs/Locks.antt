@@ -11,8 +11,7 @@ use Rattle.locks.specs.declared.Calibration.{Calibration}
 use Rattle.locks.specs.declared.Calibration.the-variants.{Passed, Failed}
 use Rattle.locks.specs.declared.Try.{Try}
 use Rattle.locks.specs.declared.Try.the-variants.{Good, Wrong}
-use Rattle.locks.specs.declared.Event.{Event}
-use Rattle.locks.specs.Events.{clockOf, calibrationIn, tryIn, Calibrating}
+use Rattle.locks.specs.Events.{calibrationIn, tryIn, Calibrating}
 use Rattle.locks.specs.Accepted.{Accepted, isKind, since, any, latestOf, latestClock}
 
 -- "Power-on and clock setting void warm-up, calibration and sign-in (as none)".

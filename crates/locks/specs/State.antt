@@ -16,19 +16,7 @@ use Rattle.locks.specs.declared.Session.{Session}
 use Rattle.locks.specs.declared.Security.{Security}
 use Rattle.locks.specs.declared.Locks.{Locks}
 use Rattle.locks.specs.declared.Event.{Event}
-use Rattle.locks.specs.declared.Event.the-variants.{
-  PowerOn,
-  ClockSetting,
-  WarmUp,
-  Calibration,
-  Try,
-  AuthorityLock,
-  AuthorityUnlock,
-  Upload,
-  Start,
-  Second,
-  Stop,
-}
+use Rattle.locks.specs.declared.Event.the-variants.{PowerOn, ClockSetting, WarmUp, Calibration, Try, AuthorityLock, AuthorityUnlock, Upload, Start, Second, Stop}
 use Rattle.locks.specs.Events.{kindOf, clockOf}
 use Rattle.locks.specs.Locks.{firstStanding}
 
