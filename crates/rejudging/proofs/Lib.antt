@@ -2,6 +2,7 @@ pub mod Cells
 pub mod Unfit
 pub mod Order
 pub mod Numerals
+pub mod Spelling
 pub mod Pieces
 pub mod Turns
 pub mod WasRead

@@ -5,3 +5,4 @@ pub mod Taking
 pub mod Rejudging
 pub mod Line
 pub mod Storing
+pub mod Laws
