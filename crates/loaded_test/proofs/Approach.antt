@@ -146,7 +146,7 @@ module _ (v : Vehicle) (i : Input) (log : List Entry) (last : List window.Measur
       (λ e. five-good v i log last MeasuringBegan (measuringFrom p) told (omega arith)
       (λ h. began-good p told (omega arith) least attempt))
       (λ e. on-pick (Good v i log last) used _ _
-      (λ f. voided-good v i log last 7 p told (omega arith))
+      (λ f. voided-good v i log last 7 (withSettling k p) told (omega arith))
       (λ f. five-good v i log last Nothing (withSettling k p) told (omega arith)
       (λ h. let a : k .ready ≤ 10 = ready e in
       let b : k .seconds ≤ mostSettling (p .mode) = seconds f in

@@ -89,7 +89,7 @@ module _ (p : Progress) (running : hasEnded (p .stage) ≡ false) where
   left-level starts used k =
       on-pick Level starts _ _
       (λ _. five-level _ _ refl)
-      (λ _. on-pick Level used _ _ (λ _. void-level 7 p) (λ _. five-level _ _ running))
+      (λ _. on-pick Level used _ _ (λ _. void-level 7 _) (λ _. five-level _ _ running))
 
   settles-level : (m : Mode) (v : Vehicle) (s : Second) → Level (settlesIn m v s p)
   unfolding settlesIn closedOne closedTwo

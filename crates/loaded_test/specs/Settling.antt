@@ -33,7 +33,7 @@ unfoldable pub settlingLeft : Bool → Bool → SettlingCounts → Progress → 
 settlingLeft begins used k p =
     pick begins
     (stepFive MeasuringBegan (measuringFrom p))
-    (pick used (voided 7 p) (stepFive Nothing (withSettling k p)))
+    (pick used (voided 7 (withSettling k p)) (stepFive Nothing (withSettling k p)))
 
 -- "If g ≥ 11, or n = 25 and g ≥ 5, measuring begins with the next second; else n = 25: void 7."
 unfoldable pub closedOne : SettlingCounts → Progress → Turn

@@ -2,6 +2,7 @@
 use Prim.Native.Nat.{ℕ}
 use mathlib.Core.List.{List}
 use lib.ListN.{replicate}
+use Rattle.refusal.specs.Choice.{pick}
 use Rattle.refusal.specs.declared.Refusal.{Refusal}
 use Rattle.vehicle.specs.declared.Vehicle.{Vehicle}
 use Rattle.vehicle.specs.declared.Mode.{Mode}
@@ -148,3 +149,7 @@ began v = testOf v (emptied One Settling noVoids)
 -- What stands where there is no test: one that takes no second and no stop.
 abbrev pub noneRunning : Test
 noneRunning = testOf blankVehicle (emptied One (Ended Incomplete) noVoids)
+
+-- "windows empty": the last valid window is read only where there is one; else it has ten blank seconds.
+unfoldable pub lastWindow : Test → List Measured
+lastWindow x = pick (x .progress .measuring .kept) (x .window) (replicate 10 blankMeasured)

@@ -23,8 +23,6 @@ pub use printed::passing_of;
 pub use printed::progress_of;
 pub use printed::seconds_of;
 pub use printed::stage_of;
-pub use printed::vehicle_of;
-pub use printed::window_of;
 use reading::Second;
 use refusal::Refusal;
 use vehicle::Checked;
@@ -95,8 +93,8 @@ pub struct Progress {
     pub voids: VoidCounts,
 }
 
-// The last ten measured seconds and the last valid window, newest first. Of last the first t are of this run; window is the
-// last valid one where kept tells that there is one.
+// The last ten measured seconds and the last valid window, newest first. The first t of last are of this run, all ten from t = 10
+// on; window is the last valid one where kept tells that there is one.
 pub struct Test {
     vehicle: Vehicle,
     progress: Progress,

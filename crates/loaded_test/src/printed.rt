@@ -2,11 +2,11 @@
 ghost use mathlib.Core.Path.{_≡_};
 ghost use Rattle.window.specs.Judging.{averagesOf};
 ghost use Rattle.loaded_test.specs.Going.{hasEnded};
+ghost use Rattle.loaded_test.specs.State.{lastWindow};
 use crate::Progress;
 use crate::Stage;
 use crate::Test;
 use vehicle::Mode;
-use vehicle::Vehicle;
 use window::Averages;
 use window::Measured;
 
@@ -78,28 +78,22 @@ pub fn has_window(x: Test) -> bool
     x.progress.measuring.kept
 }
 
-// The last valid window, where has_window tells that there is one.
-// Ruled out: the last ten seconds whether valid or not, and the first valid window.
-pub fn window_of(x: Test) -> [Measured; 10]
-    ensures { λ r. ⌜ r ≡ x .window ⌝ }
+// The last valid window; ten blank seconds where there is none, whatever windows an earlier attempt had.
+fn last_window(x: Test) -> [Measured; 10]
+    ensures { λ r. ⌜ r ≡ lastWindow x ⌝ }
 {
-    x.window
+    if x.progress.measuring.kept {
+        return x.window;
+    }
+    let m = window::blank();
+    [m; 10]
 }
 
-// The vehicle.
-// Ruled out: a blank one, and one of other settings.
-pub fn vehicle_of(x: Test) -> Vehicle
-    ensures { λ r. ⌜ r ≡ x .vehicle ⌝ }
-{
-    x.vehicle
-}
-
-// The averages of the last valid window, where has_window tells that there is one.
-// Ruled out: those of the last ten seconds, and those with another vehicle's k.
+// The averages of the last valid window; 0 where there is none.
+// Ruled out: those of the last ten seconds, and those of an earlier attempt.
 pub fn averages_of(x: Test) -> Averages
-    ensures { λ r. ⌜ r ≡ averagesOf (x .vehicle) (x .window) ⌝ }
+    ensures { λ r. ⌜ r ≡ averagesOf (x .vehicle) (lastWindow x) ⌝ }
 {
     let v = x.vehicle;
-    let w = x.window;
-    window::averages_of(v, w)
+    window::averages_of(v, last_window(x))
 }

@@ -77,11 +77,11 @@ fn settling_left(begins: bool, used: bool, k: SettlingCounts, p: Progress) -> Tu
     if begins {
         return step_five(Did::MeasuringBegan, measuring_from(p));
     }
-    if used {
-        return voided(7, p);
-    }
     let mut q = p;
     q.settling = k;
+    if used {
+        return voided(7, q);
+    }
     step_five(Did::Nothing, q)
 }
 
