@@ -3,7 +3,7 @@ use Prim.Native.Nat.{ℕ, _+_, min}
 use mathlib.Core.Bool.{Bool}
 use Rattle.refusal.specs.Choice.{pick}
 
--- A count grows by 1. It is held at the greatest number of its byte, which no count reaches (proofs/Bounds.antt): read + 1.
+-- A count grows by 1. It is held at the greatest number of its byte, which no count of a test reaches (`loaded_test/proofs/Passing: bounded`): read + 1.
 abbrev pub bump : ℕ → ℕ
 bump n = min (n + 1) 255
 

@@ -30,7 +30,7 @@ use Rattle.locks.specs.Accepted.{Accepted, accepted}
 use Rattle.bench.specs.History.{History, runs}
 use Rattle.bench.specs.Causes.{Cause, settingAt, saturationBad, causeBad, automaticIn, readingAt, lockAt, causes, firstCause}
 use Rattle.bench.specs.Telling.{inputOf, verdictNext, verdictTold, endedBy, stepTaken, outcomeOf, acceptance, added, judged, tell}
-use Rattle.bench.specs.Passes.{automatic}
+use Rattle.vehicle.specs.Settings.{automatic}
 use Rattle.bench.specs.Demand.{isAccepted, NoneStand, Unlocked, Gives}
 use Rattle.bench.proofs.Kept.{none-stand, stand-none, unlocked, no-lock}
 

@@ -25,7 +25,8 @@ use Rattle.bench.specs.History.{History, freshHistory, runs}
 use Rattle.bench.specs.Causes.{automaticOf}
 use Rattle.bench.specs.Telling.{tell, historyAfter, historyAnswers}
 use Rattle.bench.specs.Stepping.{step, freshBench, parametersFit, openedOf}
-use Rattle.bench.specs.Passes.{automatic, pass, PassEarned}
+use Rattle.vehicle.specs.Settings.{automatic}
+use Rattle.bench.specs.Passes.{pass, PassEarned}
 use Rattle.bench.specs.Demand.{benchAfter, benchAnswers, answerAfter, historyOf, Gives, Demand3, Bounded, Opens}
 use Rattle.locks.proofs.Kept.{fresh-of, wrong-most, unsent-same}
 use Rattle.bench.proofs.Summary.{testOr, summary}

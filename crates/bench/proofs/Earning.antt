@@ -30,22 +30,9 @@ use Rattle.locks.specs.declared.Event.the-variants.{PowerOn, ClockSetting, Warm
 use Rattle.locks.specs.Accepted.{Accepted, accepted, since}
 use Rattle.bench.specs.Causes.{automaticIn}
 use Rattle.bench.specs.Telling.{secondInput, inputOf}
-use Rattle.bench.specs.Passes.{Since, seconded, stopped, Reads, noMore, before, automatic, pass, isModeTwo, modeTwoBegan, PassEarned}
+use Rattle.vehicle.specs.Settings.{automatic}
+use Rattle.bench.specs.Passes.{Since, seconded, stopped, Reads, noMore, before, pass, PassEarned}
 use Rattle.bench.proofs.Sound.{Follows}
-
--- Mode 2 exactly if it began.
-mode-after : (next : Next) (m : Mode) (b : Bool) → (m ≡ Two) ↔ (b ≡ true) → (modeAfter next m ≡ Two) ↔ (isModeTwo next || b ≡ true)
-unfolding modeAfter isModeTwo
-mode-after GoesOn m b h = h
-mode-after Rests m b h = h
-mode-after RestEnded m b h = h
-mode-after ModeTwo m b h = ((λ _. refl), (λ _. refl))
-mode-after (Ends x) m b h = h
-
-mode-two : (log : List Entry) → (modeIn log ≡ Two) ↔ (modeTwoBegan log ≡ true)
-unfolding modeIn modeTwoBegan
-mode-two [] = ((λ h. let z : _≡_ {A = ℕ} 0 1 = cc in absurd (omega arith)), (λ h. absurd (false≢true h)))
-mode-two (e ∷ log) = mode-after (e .next) (modeIn log) (modeTwoBegan log) (mode-two log)
 
 aSecond-same : (s s′ : Units) → aSecond s ≡ aSecond s′ → s ≡ s′
 aSecond-same s s′ h = cc
@@ -112,7 +99,6 @@ earned-pass l e test i did t passing failing f given told = record {
   entry = entry;
   told = told′;
   ends = refl;
-  mode = mode-two (logOf v (f .inputs));
   earned = earned;
   seconds =
       newest-reads e (some (pass t passing failing)) (automatic (f .settings)) (earned .last) (earned .before) l

@@ -36,7 +36,8 @@ use Rattle.locks.specs.Locks.{withVerdict, verdictsIn, unsentIn, unsentLock, lo
 use Rattle.bench.specs.History.{History, runs}
 use Rattle.bench.specs.Causes.{Cause, settingAt, saturationBad, causeBad, automaticOf, automaticIn, codeOf, readingAt, lockAt, causes, firstCause}
 use Rattle.bench.specs.Telling.{secondInput, verdictNext, verdictTold, endedBy, stepTaken, outcomeOf, added, judged, tell}
-use Rattle.bench.specs.Passes.{Since, started, seconded, stopped, automatic}
+use Rattle.vehicle.specs.Settings.{automatic}
+use Rattle.bench.specs.Passes.{Since, started, seconded, stopped}
 use Rattle.bench.specs.Demand.{NoneStand, Unlocked}
 use Rattle.bench.proofs.Sound.{Follows, Runs, Sound}
 use Rattle.bench.proofs.Tied.{Coded, coded}

@@ -15,7 +15,8 @@ use Rattle.locks.specs.Accepted.{Accepted}
 use Rattle.locks.specs.Locks.{unsentIn}
 use Rattle.bench.specs.History.{History}
 use Rattle.bench.specs.Causes.{automaticIn}
-use Rattle.bench.specs.Passes.{Since, automatic}
+use Rattle.vehicle.specs.Settings.{automatic}
+use Rattle.bench.specs.Passes.{Since}
 
 -- A test follows the accepted events since its start.
 pub record Follows (l : List Accepted) (t : Test) : Type 0 where

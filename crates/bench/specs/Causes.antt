@@ -13,7 +13,7 @@ use Rattle.reading.specs.declared.Converted.{Converted}
 use Rattle.reading.specs.declared.Converted.the-variants as converted
 use Rattle.reading.specs.Units.{secondOf}
 use Rattle.correction.specs.Humidity.{saturationFit}
-use Rattle.vehicle.specs.Settings.{unfitPlace}
+use Rattle.vehicle.specs.Settings.{automatic, unfitPlace}
 use Rattle.loaded_test.specs.Steps.{causeFit}
 use Rattle.locks.specs.declared.Event.{Event}
 use Rattle.locks.specs.Events.{kindOf, clockOf, startIn, readingsIn, causeIn, Starting}
@@ -59,7 +59,7 @@ causeBad (some n) = not (causeFit n)
 -- The gearbox (2 automatic) is that of the latest start.
 unfoldable pub automaticOf : Option Starting → Bool
 automaticOf none = false
-automaticOf (some s) = eqb (s .settings .gearbox) 2
+automaticOf (some s) = automatic (s .settings)
 
 abbrev pub automaticIn : List Accepted → Bool
 automaticIn l = automaticOf (latestOf startIn l)

@@ -110,7 +110,7 @@ pub record Demand3 (validity limit : ℕ) : Type 0 where
       answerAfter validity limit es e ≡ Judged (pass t passing failing) →
       PassEarned (historyOf validity limit es .events) e t passing failing
 
--- No counter of the bench or of its test is at its cap: wrong tries are at most 4, unsent verdicts at most U.
+-- No counter of the test is at its cap; wrong tries are counted up to the four that lock, unsent verdicts up to U.
 pub record Bounded (limit : ℕ) (b : Bench) : Type 0 where
   pub wrong : b .desk .locks .security .wrong ≤ 4
   pub unsent : b .desk .locks .unsent ≤ limit

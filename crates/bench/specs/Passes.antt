@@ -1,35 +1,29 @@
 -- What stands in the list of accepted events wherever a pass is answered. It speaks of the accepted events, of their own readings and of
--- what document 01's steps tell of them; no state of the bench or of a test occurs here.
+-- what document 01's steps tell of them. No state of the bench occurs here; the steps begin with the start's own test.
 use Prim.Native.Nat.{ℕ}
-use mathlib.Core.Bool.{Bool, true, false, _||_}
+use mathlib.Core.Bool.{Bool}
 use mathlib.Core.Path.{_≡_}
-use mathlib.Core.Logic.{_↔_}
 use mathlib.Core.List.{List, [], _∷_}
 use mathlib.Core.Option.{Option, none, some}
-use lib.Dec.{eqb}
 use Rattle.reading.specs.declared.Readings.{Readings}
 use Rattle.reading.specs.declared.Second.{Second as Units}
 use Rattle.reading.specs.declared.Converted.the-variants as converted
 use Rattle.reading.specs.Units.{secondOf}
 use Rattle.vehicle.specs.declared.Settings.{Settings}
-use Rattle.vehicle.specs.declared.Mode.the-variants.{Two}
 use Rattle.vehicle.specs.declared.Checked.the-variants.{Fit}
+use Rattle.vehicle.specs.Settings.{automatic}
 use Rattle.vehicle.specs.Checked.{vehicleOf, checkedOf}
 use Rattle.loaded_test.specs.declared.Word.the-variants.{Pass}
 use Rattle.loaded_test.specs.declared.Verdict.{Verdict}
-use Rattle.loaded_test.specs.declared.Next.{Next}
-use Rattle.loaded_test.specs.declared.Next.the-variants.{GoesOn, Rests, RestEnded, ModeTwo, Ends}
+use Rattle.loaded_test.specs.declared.Next.the-variants.{Ends}
 use Rattle.loaded_test.specs.declared.Answer.the-variants.{Told}
 use Rattle.loaded_test.specs.Log.{Input, aSecond, aStop, Entry, step, replay, logOf}
-use Rattle.loaded_test.specs.Claim.{modeIn, Earned}
+use Rattle.loaded_test.specs.Claim.{Earned}
 use Rattle.locks.specs.declared.Event.{Event}
 use Rattle.locks.specs.declared.Event.the-variants.{Start, Second, Stop}
 use Rattle.locks.specs.Accepted.{Accepted, accepted}
 
--- "gearbox (1 manual, 2 automatic)"
-abbrev pub automatic : Settings → Bool
-automatic settings = eqb (settings .gearbox) 2
-
+-- A pass with its t and its counts of windows.
 abbrev pub pass : ℕ → ℕ → ℕ → Verdict
 pass t passing failing = record { word = Pass; t = t; passing = passing; failing = failing }
 
@@ -58,18 +52,6 @@ pub data Reads (auto : Bool) : List Units → List Accepted → Type 0 where
       Reads auto ss l →
       Reads auto (s ∷ ss) (accepted (Second clock readings) verdict ∷ l)
 
--- Mode 2 began in a log.
-unfoldable pub isModeTwo : Next → Bool
-isModeTwo GoesOn = false
-isModeTwo Rests = false
-isModeTwo RestEnded = false
-isModeTwo ModeTwo = true
-isModeTwo (Ends x) = false
-
-unfoldable pub modeTwoBegan : List Entry → Bool
-modeTwoBegan [] = false
-modeTwoBegan (e ∷ log) = isModeTwo (e .next) || modeTwoBegan log
-
 -- A pass (t, passing, failing) answered to an event after these accepted events.
 pub record PassEarned (l : List Accepted) (e : Event) (t passing failing : ℕ) : Type 0 where
   -- an accepted start with no verdict or power-on since: its settings and its p, read from the list, are fit
@@ -83,10 +65,6 @@ pub record PassEarned (l : List Accepted) (e : Event) (t passing failing : ℕ) 
   pub entry : Entry
   pub told : step (replay (vehicleOf settings saturation) inputs) (entry .input) .answer ≡ Told (entry .did) (entry .next)
   pub ends : entry .next ≡ Ends (pass t passing failing)
-  -- "mode 2" exactly if it began since that start
-  pub mode :
-      (modeIn (logOf (vehicleOf settings saturation) inputs) ≡ Two) ↔
-      (modeTwoBegan (logOf (vehicleOf settings saturation) inputs) ≡ true)
   -- t, the attempt, the seconds' cleanness, the ending rule and the counts of windows
   pub earned :
       Earned (vehicleOf settings saturation) entry (logOf (vehicleOf settings saturation) inputs) t passing failing

@@ -10,6 +10,7 @@ use Rattle.reading.specs.declared.Converted.{Converted}
 use Rattle.reading.specs.declared.Converted.the-variants as converted
 use Rattle.reading.specs.Units.{secondOf}
 use Rattle.vehicle.specs.declared.Settings.{Settings}
+use Rattle.vehicle.specs.Settings.{automatic}
 use Rattle.loaded_test.specs.declared.Verdict.{Verdict}
 use Rattle.loaded_test.specs.declared.Next.{Next}
 use Rattle.loaded_test.specs.declared.Next.the-variants.{GoesOn, Rests, RestEnded, ModeTwo, Ends}
@@ -89,7 +90,7 @@ unfoldable pub startTaken : Bench → Event → Settings → ℕ → Handled
 startTaken b e settings p =
     startJudged
     (startRuling (begin settings p .answer) (b .desk) (clockOf e))
-    b e (eqb (settings .gearbox) 2) (begin settings p .test)
+    b e (automatic settings) (begin settings p .test)
 
 -- A second or a stop that the test took.
 abbrev pub goneOn : Desk → Event → Test → Handled

@@ -8,8 +8,8 @@ use Rattle.locks.specs.declared.Try.{Try as Tried}
 use Rattle.locks.specs.declared.Event.{Event}
 use Rattle.locks.specs.declared.Event.the-variants.{PowerOn, ClockSetting, WarmUp, Calibration, Try, AuthorityLock, AuthorityUnlock, Upload, Start, Second, Stop}
 
--- "Kinds: 1 power-on; 2 clock setting; 3 warm-up finished; 4 calibration; 5 try; 6 authority lock; 7 authority unlock; 8 upload;
--- 9 start; 10 second; 11 stop"
+-- "Kinds: 1 power-on; 2 clock setting ..; 3 warm-up finished; 4 calibration ..; 5 try ..; 6 authority lock; 7 authority unlock;
+-- 8 upload; 9 start ..; 10 second ..; 11 stop .."
 abbrev pub kindOf : Event → ℕ
 kindOf (PowerOn clock) = 1
 kindOf (ClockSetting clock new) = 2

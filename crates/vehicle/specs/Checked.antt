@@ -4,7 +4,7 @@ use lib.Dec.{eqb}
 use Rattle.refusal.specs.Choice.{pick}
 use Rattle.refusal.specs.Table.{settingUnfit, saturationUnfit}
 use Rattle.correction.specs.Humidity.{kH, saturationFit}
-use Rattle.vehicle.specs.Settings.{unfitPlace}
+use Rattle.vehicle.specs.Settings.{automatic, unfitPlace}
 use Rattle.vehicle.specs.Limits.{limitsFor}
 use Rattle.vehicle.specs.Loads.{aimFor}
 use Rattle.vehicle.specs.declared.Settings.{Settings}
@@ -17,7 +17,7 @@ use Rattle.vehicle.specs.declared.Mode.the-variants.{One, Two}
 unfoldable pub vehicleOf : Settings → ℕ → Vehicle
 vehicleOf s p =
     record {
-      automatic = eqb (s .gearbox) 2;
+      automatic = automatic s;
       limits = limitsFor (s .kind) (s .year);
       first = aimFor (s .kind) (s .displacement) One;
       second = aimFor (s .kind) (s .displacement) Two;

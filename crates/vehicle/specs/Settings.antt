@@ -57,3 +57,7 @@ firstUnfit n (false ∷ l) = n
 -- The place, 1 to 7, of the first unfit setting; 0 where all are fit.
 unfoldable pub unfitPlace : Settings → ℕ
 unfitPlace s = firstUnfit 1 (settingsFit s)
+
+-- "gearbox (1 manual, 2 automatic)"
+abbrev pub automatic : Settings → Bool
+automatic s = eqb (s .gearbox) 2

@@ -342,7 +342,7 @@ pub fn engine_good(v: Vehicle, s: Second) -> bool
 }
 
 // A vehicle of no settings, for a test that is not running.
-// Ruled out: a vehicle with limits that a window can pass, and one with an automatic gearbox.
+// Ruled out: a vehicle with a limit above 0, and one with an automatic gearbox.
 pub fn blank() -> Vehicle
     ensures { λ r. ⌜ r ≡ blankVehicle ⌝ }
 {
