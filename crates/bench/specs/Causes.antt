@@ -26,6 +26,7 @@ pub record Cause : Type 0 where
   pub stands : Bool
   pub refusal : Refusal
 
+-- A row of the table: whether it stands, and its number and place.
 abbrev pub cause : Bool → Refusal → Cause
 cause stands refusal = record { stands = stands; refusal = refusal }
 
@@ -61,6 +62,7 @@ unfoldable pub automaticOf : Option Starting → Bool
 automaticOf none = false
 automaticOf (some s) = automatic (s .settings)
 
+-- The same, from the list of accepted events.
 abbrev pub automaticIn : List Accepted → Bool
 automaticIn l = automaticOf (latestOf startIn l)
 
@@ -69,6 +71,7 @@ unfoldable pub codeOf : Converted → ℕ
 codeOf (converted.Fit s) = 0
 codeOf (converted.Refused r) = r .place
 
+-- The lowest unfit code of a second's readings, or 0: "reading unfit .. code in an event".
 unfoldable pub readingAt : Bool → Option Readings → ℕ
 readingAt automatic none = 0
 readingAt automatic (some r) = codeOf (secondOf r automatic)

@@ -36,6 +36,7 @@ unfoldable pub benchAfter : Bench → List Event → Bench
 benchAfter b [] = b
 benchAfter b (e ∷ es) = benchAfter (step b e .bench) es
 
+-- The answers of a bench to the events given to it in turn.
 unfoldable pub benchAnswers : Bench → List Event → List Answer
 benchAnswers b [] = []
 benchAnswers b (e ∷ es) = step b e .answer ∷ benchAnswers (step b e .bench) es
@@ -48,6 +49,7 @@ answerAfter validity limit es e = step (benchAfter (freshBench validity limit) e
 abbrev pub historyOf : ℕ → ℕ → List Event → History
 historyOf validity limit es = historyAfter validity limit freshHistory es
 
+-- "An accepted one answers so, with its verdict if it brings one".
 unfoldable pub isAccepted : Answer → Bool
 isAccepted AnswerAccepted = true
 isAccepted (Judged x) = true
@@ -77,6 +79,7 @@ pub record Gives (h : History) (e : Event) (x : Verdict) : Type 0 where
   pub given : inputOf (automaticIn (h .events)) e ≡ some input
   pub told : testStep test input .answer ≡ Told did (Ends x)
 
+-- Demand 3, for a bench of this V and U.
 pub record Demand3 (validity limit : ℕ) : Type 0 where
   -- the answers of the bench's run are those of the plain history
   pub answers :

@@ -12,6 +12,7 @@ pub record History : Type 0 where
   pub last : ℕ
   pub test : Option Test
 
+-- "at first 0 and none"
 abbrev pub freshHistory : History
 freshHistory = record { events = []; last = 0; test = none }
 

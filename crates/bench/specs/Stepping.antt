@@ -82,10 +82,12 @@ lockRuling lock = pick (eqb lock 0) Taken (Refused (startLocked lock))
 abbrev pub startRuling : TestStart → Desk → ℕ → Ruling
 startRuling x d now = firstRefusal (fitness x) (lockRuling (lockNumber (d .validity) (d .limit) (d .locks) now))
 
+-- A start by its ruling: where nothing refuses it, its test begins.
 abbrev pub startJudged : Ruling → Bench → Event → Bool → Test → Handled
 startJudged Taken b e automatic t = record { answer = answer.Accepted; bench = withTest (b .desk) e automatic t }
 startJudged (Refused r) b e automatic t = refused r b
 
+-- A start: judged by its settings, p and the locks.
 unfoldable pub startTaken : Bench → Event → Settings → ℕ → Handled
 startTaken b e settings p =
     startJudged
@@ -103,6 +105,7 @@ judgedWith d e x = record {
   bench = withNone d e (verdictCounted (locksAfter (d .locks) e));
 }
 
+-- "a verdict or power-on leaves none": what comes next of the test, after this event.
 abbrev pub followed : Next → Desk → Event → Test → Handled
 followed GoesOn d e t = goneOn d e t
 followed Rests d e t = goneOn d e t
@@ -110,20 +113,25 @@ followed RestEnded d e t = goneOn d e t
 followed ModeTwo d e t = goneOn d e t
 followed (Ends x) d e t = judgedWith d e x
 
+-- What the test answered to a second or a stop, as the bench's answer.
 abbrev pub answered : TestAnswer → Bench → Event → Test → Handled
 answered (test-answer.Told did next) b e t = followed next (b .desk) e t
 answered (test-answer.Refused r) b e t = refused r b
 
+-- A second or a stop that the test has taken.
 abbrev pub testTaken : Stepped → Bench → Event → Handled
 testTaken x b e = answered (x .answer) b e (x .test)
 
+-- A second by its units, or refused 8.
 abbrev pub secondJudged : Converted → Bench → Event → Handled
 secondJudged (converted.Fit s) b e = testTaken (second (b .test) s) b e
 secondJudged (converted.Refused r) b e = refused r b
 
+-- A second: its readings are judged with the running test's gearbox.
 unfoldable pub secondTaken : Bench → Event → Readings → Handled
 secondTaken b e readings = secondJudged (secondOf readings (b .desk .automatic)) b e
 
+-- A stop.
 unfoldable pub stopTaken : Bench → Event → ℕ → Handled
 stopTaken b e cause = testTaken (stop (b .test) cause) b e
 
@@ -148,6 +156,7 @@ deskRuling d e =
     (pick (d .running && outsideTest (kindOf e)) (Refused testRunning)
     (pick (not (d .running) && insideTest (kindOf e)) (Refused noTest) Taken))
 
+-- An event by what the table says of it before its kind is looked at.
 abbrev pub ruled : Ruling → Bench → Event → Handled
 ruled Taken b e = taken b e
 ruled (Refused r) b e = refused r b

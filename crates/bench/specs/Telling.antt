@@ -29,6 +29,7 @@ unfoldable pub secondInput : Converted → Option Input
 secondInput (converted.Fit s) = some (aSecond s)
 secondInput (converted.Refused r) = none
 
+-- What an event gives the test: the units of a second, the cause of a stop, or nothing.
 abbrev pub inputOf : Bool → Event → Option Input
 inputOf automatic (PowerOn clock) = none
 inputOf automatic (ClockSetting clock new) = none
@@ -50,6 +51,7 @@ verdictNext RestEnded = none
 verdictNext ModeTwo = none
 verdictNext (Ends x) = some x
 
+-- The verdict in what the test answered, if there is one.
 unfoldable pub verdictTold : TestAnswer → Option Verdict
 verdictTold (test-answer.Told did next) = verdictNext next
 verdictTold (test-answer.Refused r) = none
@@ -59,6 +61,7 @@ pub record Outcome : Type 0 where
   pub verdict : Option Verdict
   pub test : Option Test
 
+-- A test or none is left, and no verdict came.
 abbrev pub leaves : Option Test → Outcome
 leaves test = record { verdict = none; test = test }
 
@@ -92,6 +95,7 @@ pub record Told : Type 0 where
   pub answer : Answer
   pub history : History
 
+-- "An accepted one answers so, with its verdict if it brings one"
 unfoldable pub acceptance : Option Verdict → Answer
 acceptance none = answer.Accepted
 acceptance (some x) = answer.Judged x
@@ -108,6 +112,7 @@ unfoldable pub judged : Option Refusal → History → Event → Told
 judged (some r) h e = record { answer = answer.Refused r; history = h }
 judged none h e = added h e (outcomeOf h e)
 
+-- One event told to the history: "A refused one answers its number and place and changes nothing"; an accepted one is added.
 unfoldable pub tell : ℕ → ℕ → History → Event → Told
 tell validity limit h e = judged (firstCause (causes validity limit h e)) h e
 
@@ -116,6 +121,7 @@ unfoldable pub historyAfter : ℕ → ℕ → History → List Event → History
 historyAfter validity limit h [] = h
 historyAfter validity limit h (e ∷ es) = historyAfter validity limit (tell validity limit h e .history) es
 
+-- The answers of the history to the events fed to it in turn.
 unfoldable pub historyAnswers : ℕ → ℕ → History → List Event → List Answer
 historyAnswers validity limit h [] = []
 historyAnswers validity limit h (e ∷ es) =

@@ -18,12 +18,15 @@ pub record Fraction : Type 0 where
   pub above : Whole
   pub below : Whole
 
+-- Their sum.
 abbrev pub added : Whole → Whole → Whole
 added x y = record { plus = x .plus + y .plus; minus = x .minus + y .minus }
 
+-- The number with its sign changed.
 abbrev pub negated : Whole → Whole
 negated x = record { plus = x .minus; minus = x .plus }
 
+-- Their product.
 abbrev pub multiplied : Whole → Whole → Whole
 multiplied x y = record { plus = x .plus * y .plus + x .minus * y .minus; minus = x .plus * y .minus + x .minus * y .plus }
 
@@ -35,12 +38,15 @@ infixl 70 _/ᶠ_
 abbrev pub _+ᶠ_ : Fraction → Fraction → Fraction
 x +ᶠ y = record { above = added (multiplied (x .above) (y .below)) (multiplied (y .above) (x .below)); below = multiplied (x .below) (y .below) }
 
+-- Their difference.
 abbrev pub _-ᶠ_ : Fraction → Fraction → Fraction
 x -ᶠ y = x +ᶠ record { above = negated (y .above); below = y .below }
 
+-- Their product.
 abbrev pub _*ᶠ_ : Fraction → Fraction → Fraction
 x *ᶠ y = record { above = multiplied (x .above) (y .above); below = multiplied (x .below) (y .below) }
 
+-- Their quotient.
 abbrev pub _/ᶠ_ : Fraction → Fraction → Fraction
 x /ᶠ y = record { above = multiplied (x .above) (y .below); below = multiplied (x .below) (y .above) }
 

@@ -26,6 +26,7 @@ modeAfter RestEnded mode = mode
 modeAfter ModeTwo mode = Two
 modeAfter (Ends x) mode = mode
 
+-- The mode after a log.
 unfoldable pub modeIn : List Entry → Mode
 modeIn [] = One
 modeIn (e ∷ log) = modeAfter (e .next) (modeIn log)
@@ -38,6 +39,7 @@ begins RestEnded = true
 begins ModeTwo = true
 begins (Ends x) = false
 
+-- A void was told.
 unfoldable pub voids : Did → Bool
 voids did.Nothing = false
 voids did.MeasuringBegan = false
@@ -72,6 +74,7 @@ pub record Clean (s : Second) : Type 0 where
   pub inRange : s .over ≡ false
   pub undiluted : diluted s ≡ false
 
+-- Each of these seconds is clean.
 pub data AllClean : List Second → Type 0 where
   noSecond : AllClean []
   andClean : {s : Second} {l : List Second} → Clean s → AllClean l → AllClean (s ∷ l)

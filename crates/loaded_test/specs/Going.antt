@@ -11,6 +11,7 @@ use Rattle.loaded_test.specs.declared.Stage.the-variants.{Settling, Meas
 use Rattle.loaded_test.specs.declared.Stepped.{Stepped}
 use Rattle.loaded_test.specs.State.{verdictOf}
 
+-- The stage "ended".
 unfoldable pub hasEnded : Stage → Bool
 hasEnded Settling = false
 hasEnded Measuring = false

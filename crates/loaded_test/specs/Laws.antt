@@ -52,6 +52,7 @@ voidAdded (did.Measured t) l = l
 voidAdded did.Restarted l = l
 voidAdded (did.Voided n) l = n ∷ l
 
+-- Mode 2's beginning sets r and q to 0.
 unfoldable pub voidsKept : Next → List ℕ → List ℕ
 voidsKept GoesOn l = l
 voidsKept Rests l = l
@@ -59,6 +60,7 @@ voidsKept RestEnded l = l
 voidsKept ModeTwo l = []
 voidsKept (Ends x) l = l
 
+-- The voids that a log tells.
 unfoldable pub voidsIn : List Entry → List ℕ
 voidsIn [] = []
 voidsIn (e ∷ log) = voidsKept (e .next) (voidAdded (e .did) (voidsIn log))

@@ -17,11 +17,13 @@ pub data Input : Type 0 where
   aSecond : Second → Input
   aStop : ℕ → Input
 
+-- What one second or stop told.
 pub record Entry : Type 0 where
   pub input : Input
   pub did : Did
   pub next : Next
 
+-- A second or a stop, taken by a test.
 abbrev pub step : Test → Input → Stepped
 step x (aSecond s) = second x s
 step x (aStop n) = stop x n

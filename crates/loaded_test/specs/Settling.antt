@@ -44,6 +44,7 @@ closedOne k p =
 unfoldable pub closedTwo : SettlingCounts → Progress → Turn
 closedTwo k p = settlingLeft (leb 5 (k .ready)) (eqb (k .seconds) 15) k p
 
+-- A counted second of settling, by the mode.
 unfoldable pub settlesIn : Mode → Vehicle → Second → Progress → Turn
 settlesIn One v s p = closedOne (secondOne v s (p .settling)) p
 settlesIn Two v s p = closedTwo (secondTwo v s (p .settling)) p

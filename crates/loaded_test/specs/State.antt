@@ -46,6 +46,7 @@ emptied mode stage voids = record {
   voids = voids;
 }
 
+-- With this c.
 abbrev pub withCounted : ℕ → Progress → Progress
 withCounted c p = record {
   mode = p .mode;
@@ -57,6 +58,7 @@ withCounted c p = record {
   voids = p .voids;
 }
 
+-- With this rest count.
 abbrev pub withResting : ℕ → Progress → Progress
 withResting k p = record {
   mode = p .mode;
@@ -68,6 +70,7 @@ withResting k p = record {
   voids = p .voids;
 }
 
+-- With these counts of settling.
 abbrev pub withSettling : SettlingCounts → Progress → Progress
 withSettling k p = record {
   mode = p .mode;
@@ -79,6 +82,7 @@ withSettling k p = record {
   voids = p .voids;
 }
 
+-- With these counts of measuring.
 abbrev pub withMeasuring : MeasuringCounts → Progress → Progress
 withMeasuring k p = record {
   mode = p .mode;
@@ -111,6 +115,7 @@ verdictOf word k = record {
   failing = k .windows .failing;
 }
 
+-- What a second or a stop did, what comes next, and the counts after it.
 abbrev pub turn : Did → Next → Progress → Turn
 turn did next p = record { did = did; next = next; progress = p }
 

@@ -64,12 +64,14 @@ secondAt (Ended w) x s = refused noTest x
 unfoldable pub second : Test → Second → Stepped
 second x s = secondAt (x .progress .stage) x s
 
+-- The stage "measuring".
 unfoldable pub isMeasuring : Stage → Bool
 isMeasuring Settling = false
 isMeasuring Measuring = true
 isMeasuring Rest = false
 isMeasuring (Ended w) = false
 
+-- The stage "rest".
 unfoldable pub isResting : Stage → Bool
 isResting Settling = false
 isResting Measuring = false
@@ -91,9 +93,11 @@ stop x n =
     (refused noTest x)
     (pick (causeFit n) (stepped x (stopTaken (isResting (x .progress .stage)) n (x .progress))) (refused causeUnfit x))
 
+-- The answer to a start, with its test.
 abbrev pub startOf : Start → Test → Begun
 startOf answer test = record { answer = answer; test = test }
 
+-- A start by what its settings were checked to.
 unfoldable pub begunBy : Checked → Begun
 begunBy (Fit v) = startOf start.Begins (began v)
 begunBy (Refused r) = startOf (start.Refused r) noneRunning

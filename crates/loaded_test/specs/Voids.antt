@@ -45,6 +45,7 @@ twiceInconclusive k = eqb (k .inconclusive) 2
 unfoldable pub thirdVoid : VoidCounts → Bool
 thirdVoid k = eqb (k .voids) 3
 
+-- What follows a void, by r and q with it.
 unfoldable pub voidFollowed : ℕ → VoidCounts → Progress → Turn
 voidFollowed n k p = voidNext (twiceInconclusive k) (thirdVoid k) n k p
 

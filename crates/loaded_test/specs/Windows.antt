@@ -41,9 +41,11 @@ windowOf v mode l = take 10 (map (measuredOf v mode) l)
 unfoldable pub validHere : Vehicle → Mode → List Second → Bool
 validHere v mode l = leb 10 (length l) && windowValid (windowOf v mode l)
 
+-- The window ending here is valid and passes.
 unfoldable pub passesHere : Vehicle → Mode → List Second → Bool
 passesHere v mode l = validHere v mode l && windowPasses v (windowOf v mode l)
 
+-- The window ending here is valid and fails.
 unfoldable pub failsHere : Vehicle → Mode → List Second → Bool
 failsHere v mode l = validHere v mode l && not (windowPasses v (windowOf v mode l))
 

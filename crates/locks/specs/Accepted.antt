@@ -14,9 +14,11 @@ pub record Accepted : Type 0 where
   pub event : Event
   pub verdict : Option Verdict
 
+-- An accepted event with its verdict, if it brought one.
 abbrev pub accepted : Event → Option Verdict → Accepted
 accepted e verdict = record { event = e; verdict = verdict }
 
+-- An accepted event of this kind.
 abbrev pub isKind : ℕ → Accepted → Bool
 isKind kind a = eqb (kindOf (a .event)) kind
 
@@ -30,6 +32,7 @@ unfoldable pub any : (Accepted → Bool) → List Accepted → Bool
 any p [] = false
 any p (a ∷ l) = p a || any p l
 
+-- The first where there is one, else the second.
 unfoldable pub orElse : {A : Type 0} → Option A → Option A → Option A
 orElse (some x) y = some x
 orElse none y = y

@@ -56,6 +56,7 @@ pub record Calibrating : Type 0 where
   pub clock : ℕ
   pub outcome : Outcome
 
+-- The calibration in an event, with its clock.
 abbrev pub calibrationIn : Event → Option Calibrating
 calibrationIn (PowerOn clock) = none
 calibrationIn (ClockSetting clock new) = none
@@ -69,6 +70,7 @@ calibrationIn (Start clock settings p) = none
 calibrationIn (Second clock readings) = none
 calibrationIn (Stop clock cause) = none
 
+-- The try in an event.
 abbrev pub tryIn : Event → Option Tried
 tryIn (PowerOn clock) = none
 tryIn (ClockSetting clock new) = none
@@ -87,6 +89,7 @@ pub record Starting : Type 0 where
   pub settings : Settings
   pub saturation : ℕ
 
+-- The start in an event.
 abbrev pub startIn : Event → Option Starting
 startIn (PowerOn clock) = none
 startIn (ClockSetting clock new) = none
@@ -100,6 +103,7 @@ startIn (Start clock settings p) = some (record { settings = settings; saturatio
 startIn (Second clock readings) = none
 startIn (Stop clock cause) = none
 
+-- The readings of a second.
 abbrev pub readingsIn : Event → Option Readings
 readingsIn (PowerOn clock) = none
 readingsIn (ClockSetting clock new) = none
@@ -113,6 +117,7 @@ readingsIn (Start clock settings p) = none
 readingsIn (Second clock readings) = some readings
 readingsIn (Stop clock cause) = none
 
+-- The cause of a stop.
 abbrev pub causeIn : Event → Option ℕ
 causeIn (PowerOn clock) = none
 causeIn (ClockSetting clock new) = none

@@ -18,6 +18,7 @@ use Rattle.locks.specs.Accepted.{Accepted, isKind, since, any, latestOf,
 abbrev pub voiding : Accepted → Bool
 voiding a = isKind 1 a || isKind 2 a
 
+-- A warm-up or a second.
 abbrev pub activity : Accepted → Bool
 activity a = isKind 3 a || isKind 10 a
 
@@ -34,10 +35,12 @@ unfoldable pub expired : ℕ → ℕ → ℕ → Calibration → Bool
 expired validity now clock Passed = ltb (clock + validity) now
 expired validity now clock Failed = true
 
+-- "no calibration, latest not passed, or older than V"
 unfoldable pub noneValid : ℕ → ℕ → Option Calibrating → Bool
 noneValid validity now none = true
 noneValid validity now (some c) = expired validity now (c .clock) (c .outcome)
 
+-- Lock 3.
 unfoldable pub notCalibrated : ℕ → ℕ → List Accepted → Bool
 notCalibrated validity now l = noneValid validity now (latestOf calibrationIn (since voiding l))
 
@@ -47,6 +50,7 @@ noneGood now none = true
 noneGood now (some (Good expiry)) = ltb expiry now
 noneGood now (some Wrong) = true
 
+-- Lock 4.
 unfoldable pub notSignedIn : ℕ → List Accepted → Bool
 notSignedIn now l = noneGood now (latestOf tryIn (since voiding l))
 
@@ -55,6 +59,7 @@ unfoldable pub withTry : Option Try → List Try → List Try
 withTry none l = l
 withTry (some x) l = x ∷ l
 
+-- The tries among accepted events, newest first.
 unfoldable pub triesIn : List Accepted → List Try
 triesIn [] = []
 triesIn (a ∷ l) = withTry (tryIn (a .event)) (triesIn l)
@@ -79,10 +84,12 @@ passwordLock l = everInRow 4 (triesIn (since (isKind 7) l))
 unfoldable pub authorityLock : List Accepted → Bool
 authorityLock l = any (isKind 6) (since (isKind 7) l)
 
+-- One verdict more, where an event brought one.
 unfoldable pub withVerdict : Option Verdict → ℕ → ℕ
 withVerdict none n = n
 withVerdict (some x) n = suc n
 
+-- How many verdicts these accepted events brought.
 unfoldable pub verdictsIn : List Accepted → ℕ
 verdictsIn [] = 0
 verdictsIn (a ∷ l) = withVerdict (a .verdict) (verdictsIn l)
@@ -112,5 +119,6 @@ unfoldable pub firstStanding : ℕ → List Bool → ℕ
 firstStanding n [] = 0
 firstStanding n (b ∷ l) = pick b n (firstStanding (n + 1) l)
 
+-- The first standing lock's number, or 0.
 unfoldable pub lockOf : ℕ → ℕ → ℕ → List Accepted → ℕ
 lockOf validity limit now l = firstStanding 1 (locks validity limit now l)

@@ -28,16 +28,20 @@ noSession = record { warm = false; calibrated = No; signed = Out }
 abbrev pub noSecurity : Security
 noSecurity = record { wrong = 0; password = false; authority = false }
 
+-- A fresh bench: nothing warmed up, calibrated, tried, locked or unsent.
 abbrev pub freshLocks : Locks
 freshLocks = record { session = noSession; active = 0; security = noSecurity; unsent = 0 }
 
+-- A finished warm-up.
 abbrev pub warmed : Session → Session
 warmed s = record { warm = true; calibrated = s .calibrated; signed = s .signed }
 
+-- A calibration that passed stands from its clock on; another leaves none.
 abbrev pub calibratedBy : ℕ → Outcome → Calibrated
 calibratedBy clock Passed = At clock
 calibratedBy clock Failed = No
 
+-- A calibration.
 abbrev pub calibratedAt : ℕ → Outcome → Session → Session
 calibratedAt clock outcome s = record { warm = s .warm; calibrated = calibratedBy clock outcome; signed = s .signed }
 
@@ -46,6 +50,7 @@ abbrev pub signedBy : Tried → SignIn
 signedBy (Good expiry) = Until expiry
 signedBy Wrong = Out
 
+-- A good try signs in until its expiry; "A wrong try also signs out".
 abbrev pub signedAt : Tried → Session → Session
 signedAt outcome s = record { warm = s .warm; calibrated = s .calibrated; signed = signedBy outcome }
 
@@ -75,6 +80,7 @@ activeAfter active kind clock = pick (renews kind) clock active
 abbrev pub wrongs : ℕ → ℕ
 wrongs n = min (n + 1) 4
 
+-- A wrong try: the row grows, and four in a row lock.
 abbrev pub wrongTry : Security → Security
 wrongTry s = record {
   wrong = wrongs (s .wrong);
@@ -87,6 +93,7 @@ abbrev pub triedBy : Tried → Security → Security
 triedBy (Good expiry) s = record { wrong = 0; password = s .password; authority = s .authority }
 triedBy Wrong s = wrongTry s
 
+-- An authority lock.
 abbrev pub authorityLocked : Security → Security
 authorityLocked s = record { wrong = s .wrong; password = s .password; authority = true }
 
@@ -130,23 +137,29 @@ verdictCounted k = record {
   unsent = oneMore (k .unsent);
 }
 
+-- Lock 1: no finished warm-up.
 abbrev pub cold : Session → Bool
 cold s = not (s .warm)
 
+-- Older than V, or none.
 abbrev pub calibrationOld : ℕ → ℕ → Calibrated → Bool
 calibrationOld validity now No = true
 calibrationOld validity now (At clock) = ltb (clock + validity) now
 
+-- Lock 3.
 abbrev pub uncalibrated : ℕ → ℕ → Session → Bool
 uncalibrated validity now s = calibrationOld validity now (s .calibrated)
 
+-- Its expiry before now, or none.
 abbrev pub signInOver : ℕ → SignIn → Bool
 signInOver now Out = true
 signInOver now (Until expiry) = ltb expiry now
 
+-- Lock 4.
 abbrev pub signedOut : ℕ → Session → Bool
 signedOut now s = signInOver now (s .signed)
 
+-- Lock 7: verdicts since the last upload = U.
 abbrev pub full : ℕ → ℕ → Bool
 full unsent limit = eqb unsent limit
 

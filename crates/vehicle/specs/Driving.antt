@@ -10,16 +10,20 @@ use Rattle.vehicle.specs.declared.Vehicle.{Vehicle}
 use Rattle.vehicle.specs.declared.Mode.{Mode}
 use Rattle.vehicle.specs.declared.Mode.the-variants.{One, Two}
 
+-- The vehicle's limits.
 abbrev pub limitsOf : Vehicle → Limits
 limitsOf v = v .limits
 
+-- What a mode asks of the vehicle: set load and target speed.
 unfoldable pub aimOf : Vehicle → Mode → Aim
 aimOf v One = v .first
 aimOf v Two = v .second
 
+-- P of the mode.
 abbrev pub setLoad : Vehicle → Mode → ℕ
 setLoad v mode = aimOf v mode .load
 
+-- The target speed of the mode.
 abbrev pub targetOf : Vehicle → Mode → ℕ
 targetOf v mode = aimOf v mode .speed
 

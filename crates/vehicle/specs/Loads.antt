@@ -23,6 +23,7 @@ unfoldable pub loads : Mode → List ℕ
 loads One = 25 ∷ 35 ∷ 85 ∷ 120 ∷ 180 ∷ 225 ∷ []
 loads Two = 20 ∷ 27 ∷ 69 ∷ 100 ∷ 150 ∷ 187 ∷ []
 
+-- P by the displacement's row and the mode.
 unfoldable pub loadFor : ℕ → Mode → ℕ
 loadFor displacement mode = getD (loads mode) (rowUpTo displacement displacementBounds) 0
 

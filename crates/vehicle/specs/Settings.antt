@@ -8,9 +8,11 @@ use Rattle.refusal.specs.Choice.{pick}
 use Rattle.vehicle.specs.declared.Range.{Range}
 use Rattle.vehicle.specs.declared.Settings.{Settings}
 
+-- A range, both ends included.
 abbrev pub range : ℕ → ℕ → Range
 range low high = record { low = low; high = high }
 
+-- In a range.
 abbrev pub within : Range → ℕ → Bool
 within g x = leb (g .low) x && leb x (g .high)
 

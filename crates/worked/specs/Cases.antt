@@ -61,12 +61,15 @@ unfoldable pub wrongTries : ℕ → List Accepted
 wrongTries zero = accepted (Calibration 20 Passed) none ∷ accepted (WarmUp 10) none ∷ []
 wrongTries (suc n) = accepted (Try 30 Wrong) none ∷ wrongTries n
 
+-- A good try, with expiry 1000.
 abbrev pub goodTry : Accepted
 goodTry = accepted (Try 40 (Good 1000)) none
 
+-- The first standing lock for a start at clock 100.
 abbrev pub lockAt100 : List Accepted → ℕ
 lockAt100 l = lockOf 86400 10 100 l
 
+-- The starred cases of "Worked by hand", one field a case.
 pub record Worked : Type 0 where
   -- CO bits 0x3F80A3D7: 100
   pub coBits : gases 0 0x3F80A3D7 ≡ Fit (counts 0 100)

@@ -51,18 +51,23 @@ driven speed load hc = record {
 abbrev pub atOne : Reading → Event
 atOne hc = Second 2 (driven (Value (fin false 25 (pos 0))) (Value (fin false 109 (negsuc 6))) hc)
 
+-- A second at mode 2's target and load.
 abbrev pub atTwo : Reading → Event
 atTwo hc = Second 2 (driven (Value (fin false 40 (pos 0))) (Value (fin false 11 (negsuc 3))) hc)
 
+-- A reading that passes.
 abbrev pub clean : Reading
 clean = Value (fin false 100 (pos 0))
 
+-- A second at rest.
 abbrev pub atRest : Event
 atRest = Second 2 (driven (Value (fin false 0 (pos 0))) (Value (fin false 0 (pos 0))) clean)
 
+-- A reading that fails.
 abbrev pub foul : Reading
 foul = Value (fin false 1000 (pos 0))
 
+-- n times the same, in front of a list.
 abbrev pub times : {A : Type 0} → ℕ → A → List A → List A
 times zero x l = l
 times (suc n) x l = x ∷ times n x l
@@ -71,6 +76,7 @@ times (suc n) x l = x ∷ times n x l
 abbrev pub started : List Event → List Event
 started es = WarmUp 0 ∷ Calibration 0 Passed ∷ Try 0 (Good 100) ∷ Start 0 settings 2339 ∷ es
 
+-- The event lists.
 abbrev pub runs : List (List Event)
 runs =
     -- an admitted start to a pass
@@ -87,9 +93,11 @@ runs =
     ∷ (Try 1 Wrong ∷ Try 2 Wrong ∷ PowerOn 3 ∷ Try 4 Wrong ∷ Try 5 Wrong ∷ WarmUp 6 ∷ Calibration 6 Passed ∷ Start 7 settings 2339 ∷ Try 8 (Good 100) ∷ Start 8 settings 2339 ∷ [])
     ∷ []
 
+-- The answer that ends a run with a pass.
 abbrev pub passes : List Answer
 passes = answer.Judged (record { word = Pass; t = 25; passing = 16; failing = 0 }) ∷ []
 
+-- The answers to each list.
 abbrev pub told : List (List Answer)
 told =
     times 39 answer.Accepted passes
