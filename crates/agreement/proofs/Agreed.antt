@@ -40,7 +40,7 @@ use Rattle.bench.specs.declared.Bench.{Bench}
 use Rattle.bench.specs.declared.Handled.{Handled}
 use Rattle.rejudging.specs.Items.{Item, aRow, aStop, itemsOf}
 use Rattle.rejudging.specs.Rejudging.{settingsOf, saturationOf, automaticOf, startedBy, rejudgedAs, rejudgedBy, rejudgedOf}
-use Rattle.rejudging.specs.Rows.{columnsOf, readingsIn, rowStart}
+use Rattle.rejudging.specs.Rows.{readingsIn, rowStart}
 use Rattle.rejudging.specs.Sheets.{shownFor, shownOf, sheetOf}
 use Rattle.rejudging.specs.Taking.{unitsGiven, rowGiven, itemGiven, stepped, orRefused, ranBy}
 use Rattle.rejudging.specs.declared.Rejudged.the-variants as rejudged
@@ -186,7 +186,7 @@ module _ (s : List ℕ) (shape : Shape) (automatic : Bool) where
   -- A row: its units were fit, or rejudging would have refused it.
   agrees-row :
       (row : ℕ) (l : List Item) (es : List Event) (last clock : ℕ) (b : Bench) (x : Test) (sheet : Sheet) (u : Converted) →
-      secondOf (readingsIn s (rowStart shape row) (columnsOf s shape)) automatic ≡ u →
+      secondOf (readingsIn s shape (rowStart shape row)) automatic ≡ u →
       last ≤ clock →
       Tracks b last automatic x →
       hasEnded (x .progress .stage) ≡ false →
@@ -196,7 +196,7 @@ module _ (s : List ℕ) (shape : Shape) (automatic : Bool) where
       Agrees b (eventOf s shape clock (aRow row) ∷ es) sheet
   unfolding ranBy itemGiven rowGiven unitsGiven stepped orRefused secondTaken pick
   agrees-row row l es last clock b x sheet (converted.Fit u) f k t h ev r rest =
-      let q = second-taken b clock (t .running) (omega (arith, t .clock)) (readingsIn s (rowStart shape row) (columnsOf s shape)) in
+      let q = second-taken b clock (t .running) (omega (arith, t .clock)) (readingsIn s shape (rowStart shape row)) in
       let w : step b (eventOf s shape clock (aRow row)) ≡ testTaken (second x u) b (eventOf s shape clock (aRow row)) =
       q ∙ simp (t .gearbox, f, t .test)
       in

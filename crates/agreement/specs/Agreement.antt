@@ -20,7 +20,7 @@ use Rattle.bench.specs.declared.Answer.the-variants as answer
 use Rattle.bench.specs.declared.Bench.{Bench}
 use Rattle.rejudging.specs.Items.{Item, aRow, aStop, itemsOf}
 use Rattle.rejudging.specs.Rejudging.{settingsOf, saturationOf, rejudgedOf}
-use Rattle.rejudging.specs.Rows.{columnsOf, readingsIn, rowStart}
+use Rattle.rejudging.specs.Rows.{readingsIn, rowStart}
 use Rattle.rejudging.specs.Sheets.{sheetOf}
 use Rattle.rejudging.specs.declared.Rejudged.the-variants.{Judged}
 use Rattle.rejudging.specs.declared.Sheet.{Sheet}
@@ -29,7 +29,7 @@ use Rattle.rejudging.specs.declared.Shown.the-variants as shown
 
 -- A row is a second with its readings, a stop a stop with its cause.
 abbrev pub eventOf : List ℕ → Shape → ℕ → Item → Event
-eventOf s shape clock (aRow row) = Second clock (readingsIn s (rowStart shape row) (columnsOf s shape))
+eventOf s shape clock (aRow row) = Second clock (readingsIn s shape (rowStart shape row))
 eventOf s shape clock (aStop i) = Stop clock (stopCauseIn s shape i)
 
 -- Events that are a record's rows and stops in their order, with clocks that never fall from `last` on.
