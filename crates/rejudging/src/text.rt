@@ -6,7 +6,6 @@ use crate::Shown;
 use refusal::Refusal;
 use vehicle::Mode;
 ghost use mathlib.Core.Path.{_≡_};
-ghost use mathlib.Core.List.{_∷_};
 ghost use Prim.Native.Nat.{_+_, _≤_};
 ghost use lib.ListN.{length};
 ghost use Rattle.rejudging.specs.Line.{
