@@ -39,7 +39,8 @@ use Rattle.bench.specs.declared.Answer.the-variants as answer
 use Rattle.bench.specs.declared.Bench.{Bench}
 use Rattle.bench.specs.declared.Handled.{Handled}
 use Rattle.rejudging.specs.Items.{Item, aRow, aStop, itemsOf}
-use Rattle.rejudging.specs.Rejudging.{settingsOf, saturationOf, automaticOf, startedBy, rejudgedAs, rejudgedBy, rejudgedOf}
+use Rattle.vehicle.specs.Settings.{automatic}
+use Rattle.rejudging.specs.Rejudging.{settingsOf, saturationOf, startedBy, rejudgedAs, rejudgedBy, rejudgedOf}
 use Rattle.rejudging.specs.Rows.{readingsIn, rowStart}
 use Rattle.rejudging.specs.Sheets.{shownFor, shownOf, sheetOf}
 use Rattle.rejudging.specs.Taking.{unitsGiven, rowGiven, itemGiven, stepped, orRefused, ranBy}
@@ -263,7 +264,7 @@ run-of :
     (s : List ℕ) (shape : Shape) (x : Sheet) →
     readRecord s ≡ read.Fit shape →
     rejudgedOf s ≡ rejudged.Judged x →
-    ranBy s shape (automaticOf (settingsOf s shape)) (itemsOf s shape) (begin (settingsOf s shape) (saturationOf s shape) .test)
+    ranBy s shape (automatic (settingsOf s shape)) (itemsOf s shape) (begin (settingsOf s shape) (saturationOf s shape) .test)
     ≡ rejudged.Judged x
 unfolding rejudgedOf rejudgedBy rejudgedAs startedBy
 run-of s shape x e r = rw (e, start-fit s shape e) at r
@@ -273,7 +274,7 @@ agreed s shape x below e r b clock es a ev =
     let settings = settingsOf s shape in
     let p = saturationOf s shape in
     rw (admitted b clock settings p a)
-    (follows s shape (automaticOf settings) (itemsOf s shape) es clock _ (begin settings p .test) x ev (causes-fit s shape below e)
+    (follows s shape (automatic settings) (itemsOf s shape) es clock _ (begin settings p .test) x ev (causes-fit s shape below e)
     (record { running = refl; clock = le-refl clock; gearbox = refl; test = refl })
     (begins-open settings p (start-fit s shape e))
     (run-of s shape x e r))

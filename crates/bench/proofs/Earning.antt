@@ -1,9 +1,8 @@
 -- The pass claim, lifted from one test's log to the accepted events and their own readings. Assumes nothing.
 use Prim.Native.Nat.{ℕ}
 use native.Mathlib.Omega.{arith}
-use mathlib.Core.Bool.{Bool, true, false, false≢true, not, _||_}
+use mathlib.Core.Bool.{Bool, not}
 use mathlib.Core.Path.{_≡_, refl, ap, sym, _∙_, subst}
-use mathlib.Core.Logic.{_↔_}
 use mathlib.Core.List.{List, [], _∷_}
 use mathlib.Core.Option.{Option, none, some}
 use Rattle.reading.specs.declared.Second.{Second as Units}
@@ -12,17 +11,14 @@ use Rattle.reading.specs.declared.Converted.the-variants as converted
 use Rattle.reading.specs.Units.{secondOf}
 use Rattle.vehicle.specs.declared.Settings.{Settings}
 use Rattle.vehicle.specs.declared.Vehicle.{Vehicle}
-use Rattle.vehicle.specs.declared.Mode.{Mode}
-use Rattle.vehicle.specs.declared.Mode.the-variants.{Two}
 use Rattle.vehicle.specs.Checked.{vehicleOf}
 use Rattle.loaded_test.specs.declared.Verdict.{Verdict}
 use Rattle.loaded_test.specs.declared.Did.{Did}
-use Rattle.loaded_test.specs.declared.Next.{Next}
-use Rattle.loaded_test.specs.declared.Next.the-variants.{GoesOn, Rests, RestEnded, ModeTwo, Ends}
+use Rattle.loaded_test.specs.declared.Next.the-variants.{Ends}
 use Rattle.loaded_test.specs.declared.Answer.the-variants as test-answer
 use Rattle.loaded_test.specs.declared.Test.{Test}
 use Rattle.loaded_test.specs.Log.{Input, aSecond, aStop, Entry, step, replay, logged, logOf}
-use Rattle.loaded_test.specs.Claim.{modeAfter, modeIn, Measures, more as measuresMore, Earned, PassClaim}
+use Rattle.loaded_test.specs.Claim.{Measures, more as measuresMore, Earned, PassClaim}
 use Rattle.loaded_test.proofs.Passing.{passes}
 use Rattle.bench.specs.declared.Answer.the-variants as answer
 use Rattle.locks.specs.declared.Event.{Event}

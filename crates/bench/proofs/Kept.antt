@@ -12,7 +12,7 @@ use Rattle.refusal.specs.declared.Refusal.{Refusal}
 use Rattle.reading.specs.declared.Readings.{Readings}
 use Rattle.reading.specs.declared.Converted.{Converted}
 use Rattle.reading.specs.declared.Converted.the-variants as converted
-use Rattle.reading.specs.Units.{secondOf}
+use Rattle.reading.specs.Units.{secondOf, unfitCode}
 use Rattle.correction.specs.Humidity.{saturationFit}
 use Rattle.vehicle.specs.declared.Settings.{Settings}
 use Rattle.vehicle.specs.Settings.{unfitPlace}
@@ -34,7 +34,7 @@ use Rattle.locks.specs.Events.{kindOf}
 use Rattle.locks.specs.Accepted.{Accepted, accepted, since, orElse, latestOf}
 use Rattle.locks.specs.Locks.{withVerdict, verdictsIn, unsentIn, unsentLock, locks, firstStanding, lockOf}
 use Rattle.bench.specs.History.{History, runs}
-use Rattle.bench.specs.Causes.{Cause, settingAt, saturationBad, causeBad, automaticOf, automaticIn, codeOf, readingAt, lockAt, causes, firstCause}
+use Rattle.bench.specs.Causes.{Cause, settingAt, saturationBad, causeBad, automaticOf, automaticIn, readingAt, lockAt, causes, firstCause}
 use Rattle.bench.specs.Telling.{secondInput, verdictNext, verdictTold, endedBy, stepTaken, outcomeOf, added, judged, tell}
 use Rattle.vehicle.specs.Settings.{automatic}
 use Rattle.bench.specs.Passes.{Since, started, seconded, stopped}
@@ -226,11 +226,11 @@ module _ (validity limit : ℕ) (l : List Accepted) (last : ℕ) where
   second-kept :
       (clock : ℕ) (readings : Readings) (t : Test) (x : Converted) →
       secondOf readings (automaticIn l) ≡ x →
-      eqb (codeOf x) 0 ≡ true →
+      eqb (unfitCode x) 0 ≡ true →
       ((y : Refusal) → x ≡ converted.Refused y → eqb (y .place) 0 ≡ false) →
       Runs limit l (some t) →
       Sound limit (added (at (some t)) (Second clock readings) (stepTaken (some t) (secondInput x)) .history)
-  unfolding secondInput codeOf unsentIn since pick verdictsIn latestOf orElse
+  unfolding secondInput unfitCode unsentIn since pick verdictsIn latestOf orElse
   second-kept clock readings t (converted.Fit s) e k z r =
       input-kept (Second clock readings) t (aSecond s) (second-goes t s (r .0)) r (λ _. refl) refl
       (λ f x log i since. seconded (subst (λ b. secondOf readings b ≡ converted.Fit s) (f .gearbox) e) i since)

@@ -16,7 +16,7 @@ use Rattle.reading.specs.declared.Judged.{Judged}
 use Rattle.reading.specs.declared.Judged.the-variants as level-judged
 use Rattle.reading.specs.declared.Converted.{Converted}
 use Rattle.reading.specs.declared.Converted.the-variants as converted
-use Rattle.reading.specs.Units.{secondOf, keep}
+use Rattle.reading.specs.Units.{secondOf, keep, unfitCode}
 use Rattle.correction.specs.Humidity.{saturationFit}
 use Rattle.vehicle.specs.declared.Settings.{Settings}
 use Rattle.vehicle.specs.Settings.{unfitPlace}
@@ -42,7 +42,7 @@ use Rattle.locks.specs.Locks.{lockOf, unsentIn}
 use Rattle.locks.specs.State.{locksAfter, verdictCounted}
 use Rattle.locks.proofs.Kept.{locksOf, locks-after, second-counted, stop-counted, lock-number}
 use Rattle.bench.specs.History.{History, runs}
-use Rattle.bench.specs.Causes.{Cause, outsideTest, insideTest, settingAt, saturationBad, causeBad, automaticOf, automaticIn, codeOf, readingAt, lockAt, causes, firstCause}
+use Rattle.bench.specs.Causes.{Cause, outsideTest, insideTest, settingAt, saturationBad, causeBad, automaticOf, automaticIn, readingAt, lockAt, causes, firstCause}
 use Rattle.bench.specs.Telling.{secondInput, verdictNext, verdictTold, leaves, endedBy, stepTaken, acceptance, added, judged, tell}
 use Rattle.bench.specs.declared.Ruling.{Ruling}
 use Rattle.bench.specs.declared.Ruling.the-variants as ruling
@@ -233,7 +233,7 @@ module _ (validity limit : ℕ) (l : List Accepted) (last : ℕ) where
       hasEnded (t .progress .stage) ≡ false →
       unsentIn l < 65535 →
       Tied (some t) (Second clock readings)
-  unfolding causes firstCause settingAt saturationBad causeBad readingAt codeOf lockAt runs testOr secondTaken secondInput stepTaken judged pick latestOf orElse
+  unfolding causes firstCause settingAt saturationBad causeBad readingAt unfitCode lockAt runs testOr secondTaken secondInput stepTaken judged pick latestOf orElse
   second-tied clock readings t live room = go (secondOf readings (automaticIn l)) refl (coded readings (automaticIn l))
     where
       go : (x : Converted) → secondOf readings (automaticIn l) ≡ x → Coded (secondOf readings (automaticIn l)) → Tied (some t) (Second clock readings)

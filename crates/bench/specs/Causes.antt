@@ -9,9 +9,7 @@ use Rattle.refusal.specs.Choice.{pick}
 use Rattle.refusal.specs.Table.{clockEarlier, testRunning, noTest, settingUnfit, saturationUnfit, causeUnfit, readingUnfit, startLocked}
 use Rattle.refusal.specs.declared.Refusal.{Refusal}
 use Rattle.reading.specs.declared.Readings.{Readings}
-use Rattle.reading.specs.declared.Converted.{Converted}
-use Rattle.reading.specs.declared.Converted.the-variants as converted
-use Rattle.reading.specs.Units.{secondOf}
+use Rattle.reading.specs.Units.{secondOf, unfitCode}
 use Rattle.correction.specs.Humidity.{saturationFit}
 use Rattle.vehicle.specs.Settings.{automatic, unfitPlace}
 use Rattle.loaded_test.specs.Steps.{causeFit}
@@ -66,15 +64,10 @@ automaticOf (some s) = automatic (s .settings)
 abbrev pub automaticIn : List Accepted → Bool
 automaticIn l = automaticOf (latestOf startIn l)
 
--- "reading unfit": the code of the first unfit reading of a second; 0 where there is none.
-unfoldable pub codeOf : Converted → ℕ
-codeOf (converted.Fit s) = 0
-codeOf (converted.Refused r) = r .place
-
 -- The lowest unfit code of a second's readings, or 0: "reading unfit .. code in an event".
 unfoldable pub readingAt : Bool → Option Readings → ℕ
 readingAt automatic none = 0
-readingAt automatic (some r) = codeOf (secondOf r automatic)
+readingAt automatic (some r) = unfitCode (secondOf r automatic)
 
 -- "start locked": the number of the first standing lock; 0 where there is none.
 unfoldable pub lockAt : ℕ → ℕ → ℕ → List Accepted → Option Starting → ℕ

@@ -1,5 +1,5 @@
 -- The starred cases hold: each is computed from the definitions. Assumes nothing.
-use mathlib.Core.Path.{_≡_, refl}
+use mathlib.Core.Path.{refl}
 use lib.Ieee.{ofBits, ofFields, odd}
 use Rattle.refusal.specs.Choice.{pick}
 use Rattle.reading.specs.Kind.{readingOf}
@@ -11,28 +11,7 @@ use Rattle.correction.specs.Humidity.{kH}
 use Rattle.correction.proofs.Ranges.{k-dry}
 use Rattle.vehicle.specs.Driving.{inTolerance}
 use Rattle.locks.specs.Accepted.{since, any, orElse, latestOf, latestClock}
-use Rattle.locks.specs.Locks.{
-  notWarm,
-  inactive,
-  expired,
-  noneValid,
-  notCalibrated,
-  noneGood,
-  notSignedIn,
-  withTry,
-  triesIn,
-  wrongRow,
-  everInRow,
-  passwordLock,
-  authorityLock,
-  withVerdict,
-  verdictsIn,
-  unsentIn,
-  unsentLock,
-  locks,
-  firstStanding,
-  lockOf,
-}
+use Rattle.locks.specs.Locks.{notWarm, inactive, expired, noneValid, notCalibrated, noneGood, notSignedIn, withTry, triesIn, wrongRow, everInRow, passwordLock, authorityLock, withVerdict, verdictsIn, unsentIn, unsentLock, locks, firstStanding, lockOf}
 use Rattle.worked.specs.Cases.{gases, wrongTries, Worked}
 
 pub worked : Worked

@@ -1,5 +1,5 @@
 -- The runs hold on both sides: each answer is computed from the definitions. Assumes nothing.
-use mathlib.Core.Path.{_≡_, refl}
+use mathlib.Core.Path.{refl}
 use Rattle.bench.specs.Demand.{benchAnswers}
 use Rattle.refusal.specs.Choice.{pick}
 use Rattle.reading.specs.Kind.{readingOf}
@@ -29,12 +29,13 @@ use Rattle.loaded_test.specs.Voids.{modeEnded, voidCounted, voidNext, twiceInco
 use Rattle.locks.specs.Accepted.{since, any, orElse, latestOf, latestClock}
 use Rattle.locks.specs.Locks.{notWarm, inactive, expired, noneValid, notCalibrated, noneGood, notSignedIn, withTry, triesIn, wrongRow, everInRow, passwordLock, authorityLock, withVerdict, verdictsIn, unsentIn, unsentLock, locks, firstStanding, lockOf}
 use Rattle.locks.specs.State.{activeAfter, unsentAfter, lockNumber}
-use Rattle.bench.specs.Causes.{settingAt, saturationBad, causeBad, automaticOf, codeOf, readingAt, lockAt, causes, firstCause}
+use Rattle.reading.specs.Units.{unfitCode}
+use Rattle.bench.specs.Causes.{settingAt, saturationBad, causeBad, automaticOf, readingAt, lockAt, causes, firstCause}
 use Rattle.bench.specs.History.{runs}
 use Rattle.bench.specs.Stepping.{lockRuling, startTaken, secondTaken, deskRuling, step, openedOf}
 use Rattle.bench.specs.Telling.{secondInput, verdictNext, verdictTold, endedBy, stepTaken, acceptance, added, tell, historyAfter, historyAnswers}
 use Rattle.worked.specs.Runs.{Played}
 
 pub played : Played
-unfolding benchAnswers pick readingOf accepted unitCount Rattle.reading.specs.Rounding.halfUp judgedOf keep secondFrom secondOf dcfOf kH humidityFactor Rattle.correction.specs.Rounding.halfUp vehicleOf checkedOf aimOf inTolerance limitsFor limitRow rowUpTo displacementBounds loads loadFor targetFor ranges rangeAt settingFit firstUnfit unfitPlace sumOf sumNo windowPasses averagesOf secondOut measuredOf windowValid inRow inAll atNinety earlyPass endingRule tallied windowCounted ready screened begunAnew watched settledOne settledTwo secondOne secondTwo hasEnded endsIn closed concluded windowTaken windowJudged windowKept measures Rattle.loaded_test.specs.Measuring.judged restCount rested settlingLeft closedOne closedTwo settlesIn settles taken measured inAttempt secondAt second isResting stop begunBy begin Rattle.loaded_test.specs.Steps.stopTaken modeEnded voidCounted voidNext twiceInconclusive thirdVoid voidFollowed voided stepFive since any orElse latestOf latestClock notWarm inactive expired noneValid notCalibrated noneGood notSignedIn withTry triesIn wrongRow everInRow passwordLock authorityLock withVerdict verdictsIn unsentIn unsentLock locks firstStanding lockOf activeAfter unsentAfter lockNumber settingAt saturationBad causeBad automaticOf codeOf readingAt lockAt causes firstCause runs lockRuling startTaken secondTaken deskRuling step openedOf Rattle.bench.specs.Stepping.stopTaken secondInput verdictNext verdictTold endedBy stepTaken acceptance added tell historyAfter historyAnswers Rattle.bench.specs.Telling.judged
+unfolding benchAnswers pick readingOf accepted unitCount Rattle.reading.specs.Rounding.halfUp judgedOf keep secondFrom secondOf dcfOf kH humidityFactor Rattle.correction.specs.Rounding.halfUp vehicleOf checkedOf aimOf inTolerance limitsFor limitRow rowUpTo displacementBounds loads loadFor targetFor ranges rangeAt settingFit firstUnfit unfitPlace sumOf sumNo windowPasses averagesOf secondOut measuredOf windowValid inRow inAll atNinety earlyPass endingRule tallied windowCounted ready screened begunAnew watched settledOne settledTwo secondOne secondTwo hasEnded endsIn closed concluded windowTaken windowJudged windowKept measures Rattle.loaded_test.specs.Measuring.judged restCount rested settlingLeft closedOne closedTwo settlesIn settles taken measured inAttempt secondAt second isResting stop begunBy begin Rattle.loaded_test.specs.Steps.stopTaken modeEnded voidCounted voidNext twiceInconclusive thirdVoid voidFollowed voided stepFive since any orElse latestOf latestClock notWarm inactive expired noneValid notCalibrated noneGood notSignedIn withTry triesIn wrongRow everInRow passwordLock authorityLock withVerdict verdictsIn unsentIn unsentLock locks firstStanding lockOf activeAfter unsentAfter lockNumber settingAt saturationBad causeBad automaticOf unfitCode readingAt lockAt causes firstCause runs lockRuling startTaken secondTaken deskRuling step openedOf Rattle.bench.specs.Stepping.stopTaken secondInput verdictNext verdictTold endedBy stepTaken acceptance added tell historyAfter historyAnswers Rattle.bench.specs.Telling.judged
 played = record { bench = refl; history = refl }

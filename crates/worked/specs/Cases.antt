@@ -1,13 +1,12 @@
 -- Document 01, "Worked by hand": the starred cases as one table. Each row sets what the definitions give against what document 01 writes.
 use mathlib.Core.Path.{_≡_}
-use mathlib.Core.Bool.{Bool, true, false}
+use mathlib.Core.Bool.{true, false}
 use mathlib.Core.List.{List, [], _∷_}
 use mathlib.Core.Option.{none}
 use Prim.Native.Nat.{ℕ, zero, suc, _<_}
 use Rattle.refusal.specs.Table.{refusal}
 use Rattle.reading.specs.Kind.{readingOf}
 use Rattle.reading.specs.Units.{secondOf}
-use Rattle.reading.specs.declared.Readings.{Readings}
 use Rattle.reading.specs.declared.Second.{Second}
 use Rattle.reading.specs.declared.Level.the-variants.{Count}
 use Rattle.reading.specs.declared.Converted.{Converted}
