@@ -3228,7 +3228,15 @@ fn sample(name: &str) -> Option<Vec<u8>> {
     match name {
         "listing" => return Some(listing(36).bytes()),
         "empty" => return Some(listing(0).bytes()),
-        "pass" => script.pass(),
+        // Hotter than 30 °C, and so humid that another p gives another NO.
+        "hot" => {
+            let mut content = listing(36);
+            (content.settings[4], content.settings[5]) = (100, 31);
+            return Some(content.bytes());
+        }
+        // The longest record, and one byte more.
+        "too_long" => return Some([sized_content(30, 500, 255).bytes(), vec![0]].concat()),
+        "pass" | "unfit" => script.pass(),
         "fail2" => {
             script.to_mode_2();
             script.settle();
@@ -3252,7 +3260,11 @@ fn sample(name: &str) -> Option<Vec<u8>> {
     }
     let mut dice = Dice(7);
     let codes = vec![1, 2, 3, 4, 5, 6, 7, 8];
-    Some(content_of(&site, codes, &script.items, &mut dice).bytes())
+    let mut content = content_of(&site, codes, &script.items, &mut dice);
+    if name == "unfit" {
+        content.cells[3 * 8 + 7] = (-1.0f32).to_bits(); // O2 of row 4, which no step uses
+    }
+    Some(content.bytes())
 }
 
 // ---------------------------------------------------------------------------
@@ -3282,7 +3294,7 @@ fn corner_contents() -> Vec<Content> {
         sized_content(6, 1501, 0),
         sized_content(10, 1500, 1),
         sized_content(11, 1363, 0),
-        sized_content(11, 1364, 0),
+        sized_content(13, 1154, 0), // 15,002 cells: the least above 15,000 that rows fill
         sized_content(30, 500, 255),
         sized_content(30, 501, 0),
         sized_content(32, 468, 3),
@@ -5461,6 +5473,9 @@ fn check_samples(checks: &mut Checks) {
         true,
     );
     checks.same("sample refused", starts("refused", "refused 9 "), true);
+    checks.same("sample hot", starts("hot", "pass 1 25 16 0 "), true);
+    checks.same("sample unfit", line("unfit"), "refused 8 209".into());
+    checks.same("sample too_long", line("too_long"), "refused 7 60873".into());
     checks.same(
         "sample listing",
         line("listing"),
