@@ -2459,6 +2459,15 @@ impl Script {
         self.clean(count);
     }
 
+    /// As many, each just near enough: 15 above and below the target.
+    fn settle_at_edge(&mut self) {
+        let count = if self.mode == 1 { 11 } else { 5 };
+        for i in 0..count {
+            let off = if i % 2 == 0 { 15 } else { -15 };
+            self.seconds(1, |w| w.units[0] += off);
+        }
+    }
+
     /// Moving, but not near enough for n to start.
     fn far(&mut self, count: usize) {
         let off = if self.mode == 1 { 51 } else { 16 };
@@ -2469,6 +2478,17 @@ impl Script {
     fn unready(&mut self, count: usize) {
         let slack = self.load_slack();
         self.seconds(count, |w| w.units[1] += slack + 1);
+    }
+
+    /// Not ready, and in mode 1 just near enough not to be out: 50 above and below the target.
+    fn unready_at_edge(&mut self, count: usize) {
+        for i in 0..count {
+            let off = if i % 2 == 0 { 50 } else { -50 };
+            match self.mode {
+                1 => self.seconds(1, |w| w.units[0] += off),
+                _ => self.unready(1),
+            }
+        }
     }
 
     /// Out while measuring.
@@ -2607,7 +2627,7 @@ impl Script {
 fn scripts(car: Vehicle, mode: u8, seed: u64) -> Vec<Vec<Item>> {
     let pieces: Vec<fn(&mut Script)> = vec![
         |s| s.pass(),
-        |s| { s.settle(); s.falling(25, 8) },
+        |s| { s.settle_at_edge(); s.falling(25, 8) },
         |s| { s.settle(); s.falling(90, 9) },
         |s| { s.settle(); s.dirty(90) },
         |s| { s.settle(); s.inconclusive(true) },
@@ -2657,7 +2677,7 @@ fn scripts(car: Vehicle, mode: u8, seed: u64) -> Vec<Vec<Item>> {
         |s| { for _ in 0..5 { s.unready(1); s.far(1) } s.pass() },
         |s| { s.unready(18); s.far(1); s.far(1); s.far(3); s.pass() },
         |s| { s.unready(19); s.far(2); s.clean(4); s.rest(); s.pass() },
-        |s| { s.unready(if s.mode == 1 { 20 } else { 10 }); s.pass() },
+        |s| { s.unready_at_edge(if s.mode == 1 { 20 } else { 10 }); s.pass() },
         |s| { s.unready(if s.mode == 1 { 21 } else { 11 }); s.clean(4); s.rest(); s.pass() },
         |s| { s.far(if s.mode == 1 { 44 } else { 50 }); s.settle(); s.dirty(90) },
         |s| { s.far(if s.mode == 1 { 44 } else { 50 }); s.settle(); s.inconclusive(false) },
