@@ -2541,6 +2541,19 @@ impl Script {
         }
     }
 
+    /// As `falling`, 90 seconds with 15 passing windows, the last of them at t = 90.
+    fn late(&mut self, fall: i64) {
+        for i in 0..90 {
+            let change = match i {
+                0 => fall / 2,
+                9 => fall / 2 - fall,
+                _ => 0,
+            };
+            let hc = if i < 66 { 9000 } else { 100 };
+            self.seconds(1, |w| (w.units[0], w.units[3]) = (w.units[0] + change, hc));
+        }
+    }
+
     /// 90 measured seconds with 24 failing and 14 passing windows, or, with
     /// `more`, 25 failing ones.
     fn inconclusive(&mut self, more: bool) {
@@ -2681,7 +2694,7 @@ fn scripts(car: Vehicle, mode: u8, seed: u64) -> Vec<Vec<Item>> {
         |s| { s.unready(if s.mode == 1 { 21 } else { 11 }); s.clean(4); s.rest(); s.pass() },
         |s| { s.far(if s.mode == 1 { 44 } else { 50 }); s.settle(); s.dirty(90) },
         |s| { s.far(if s.mode == 1 { 44 } else { 50 }); s.settle(); s.inconclusive(false) },
-        |s| { s.far(if s.mode == 1 { 44 } else { 50 }); s.settle(); s.falling(90, 9) },
+        |s| { s.far(if s.mode == 1 { 44 } else { 50 }); s.settle(); s.late(9) },
         |s| { s.far(if s.mode == 1 { 134 } else { 140 }); s.settle(); s.rest(); s.pass() },
         |s| { s.far(if s.mode == 1 { 131 } else { 137 }); s.settle(); s.out(3); s.rest() },
         |s| { s.far(145); s.stop(1); s.rest(); s.pass() },
