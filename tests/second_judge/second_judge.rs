@@ -3425,16 +3425,17 @@ fn make_read(seed: u64, count: usize) -> Vec<u8> {
     for content in corner_contents() {
         put_item(&mut out, &content.bytes());
     }
-    for (at, values) in [
-        (0, [0, 33]),
-        (7, [6, 8]),
-        (22, [28, 30]),
-        (81, [1, 3]),
-        (131, [1, 3]),
-    ] {
+    let counts: [(usize, &[u8]); 5] = [
+        (0, &[0, 1, 33]),
+        (7, &[6, 8]),
+        (22, &[28, 30]),
+        (81, &[1, 3]),
+        (131, &[1, 3]),
+    ];
+    for (at, values) in counts {
         for value in values {
             let mut record = small.clone();
-            record[at] = value;
+            record[at] = *value;
             put_item(&mut out, &record);
             // The count alone, and the count with nothing after it, are judged first.
             put_item(&mut out, &record[..at + 1]);
