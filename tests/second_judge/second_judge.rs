@@ -3282,6 +3282,12 @@ fn sample(name: &str) -> Option<Vec<u8>> {
             script.clean(20);
             script.stop(1);
         }
+        // Three attempts, each ended by a stop.
+        "stops" => {
+            script.void_and_rest(1);
+            script.void_and_rest(2);
+            script.void(3);
+        }
         "refused" => {
             script.pass();
             script.clean(1);
@@ -5509,6 +5515,7 @@ fn check_samples(checks: &mut Checks) {
     checks.same("sample refused", starts("refused", "refused 9 "), true);
     checks.same("sample hot", starts("hot", "pass 1 25 16 0 "), true);
     checks.same("sample unfit", line("unfit"), "refused 8 209".into());
+    checks.same("sample stops", line("stops"), "incomplete 1 0 0 0 - - -".into());
     checks.same("sample too_long", line("too_long"), "refused 7 60873".into());
     checks.same(
         "sample listing",
