@@ -10,11 +10,11 @@ use Rattle.reading.specs.declared.Reading.{Reading}
 use Rattle.reading.specs.declared.Reading.the-variants.{Value, Missing, Over}
 use Rattle.reading.specs.declared.Readings.{Readings}
 use Rattle.vehicle.specs.declared.Settings.{Settings}
-use Rattle.loaded_test.specs.declared.Word.the-variants.{Pass}
+use Rattle.loaded_test.specs.declared.Word.the-variants.{Pass, Incomplete}
 use Rattle.locks.specs.declared.Calibration.the-variants.{Passed}
 use Rattle.locks.specs.declared.Try.the-variants.{Good, Wrong}
 use Rattle.locks.specs.declared.Event.{Event}
-use Rattle.locks.specs.declared.Event.the-variants.{PowerOn, ClockSetting, WarmUp, Calibration, Try, Start, Second}
+use Rattle.locks.specs.declared.Event.the-variants.{PowerOn, ClockSetting, WarmUp, Calibration, Try, Start, Second, Stop}
 use Rattle.bench.specs.declared.Answer.{Answer}
 use Rattle.bench.specs.declared.Answer.the-variants as answer
 use Rattle.bench.specs.History.{freshHistory}
@@ -91,11 +91,17 @@ runs =
     ∷ (WarmUp 5 ∷ Calibration 5 Passed ∷ ClockSetting 6 3 ∷ WarmUp 3 ∷ Try 3 (Good 100) ∷ Start 3 settings 2339 ∷ [])
     -- four wrong tries across a power-on
     ∷ (Try 1 Wrong ∷ Try 2 Wrong ∷ PowerOn 3 ∷ Try 4 Wrong ∷ Try 5 Wrong ∷ WarmUp 6 ∷ Calibration 6 Passed ∷ Start 7 settings 2339 ∷ Try 8 (Good 100) ∷ Start 8 settings 2339 ∷ [])
+    -- the third void is a stop 1,801 s after the last second: a stop does not renew lock 2
+    ∷ started (atOne Over ∷ times 10 atRest (atOne Over ∷ times 10 atRest (atOne clean ∷ Stop 1803 1 ∷ Start 1803 settings 2339 ∷ [])))
     ∷ []
 
 -- The answer that ends a run with a pass.
 abbrev pub passes : List Answer
 passes = answer.Judged (record { word = Pass; t = 25; passing = 16; failing = 0 }) ∷ []
+
+-- Three voids: incomplete, with no second measured.
+abbrev pub incomplete : Answer
+incomplete = answer.Judged (record { word = Incomplete; t = 0; passing = 0; failing = 0 })
 
 -- The answers to each list.
 abbrev pub told : List (List Answer)
@@ -106,6 +112,7 @@ told =
     ∷ times 6 answer.Accepted (answer.Refused noTest ∷ answer.Refused (startLocked 1) ∷ [])
     ∷ times 5 answer.Accepted (answer.Refused (startLocked 3) ∷ [])
     ∷ times 7 answer.Accepted (answer.Refused (startLocked 4) ∷ answer.Accepted ∷ answer.Refused (startLocked 5) ∷ [])
+    ∷ times 27 answer.Accepted (incomplete ∷ answer.Refused (startLocked 2) ∷ [])
     ∷ []
 
 -- The bench's run and the plain history answer these, V being a day and U 2.
