@@ -1,3 +1,3 @@
 pub mod Causes
 pub mod Following
-pub mod Agreed
+pub mod SameVerdict

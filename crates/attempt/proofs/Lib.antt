@@ -1,4 +1,5 @@
 pub mod Tests
 pub mod Most
+pub mod Screens
 pub mod Ruled
 pub mod Sums

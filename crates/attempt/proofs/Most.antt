@@ -1,17 +1,15 @@
 -- The greatest counts of settling after a second. Assumes nothing.
 use Prim.Native.Nat.{ℕ, suc, _≤_}
 use native.Mathlib.Omega.{arith}
-use mathlib.Core.Bool.{Bool, false, not, _&&_, _||_}
+use mathlib.Core.Bool.{Bool, not, _&&_, _||_}
 use mathlib.Core.Path.{_≡_}
 use lib.Dec.{leb, eqb}
 use borrow.Author.Tests.{eqb-false}
-use Rattle.refusal.specs.Choice.{pick}
 use Rattle.refusal.proofs.Picked.{on-pick}
-use Rattle.reading.specs.declared.Second.{Second}
-use Rattle.vehicle.specs.declared.Vehicle.{Vehicle}
 use Rattle.attempt.specs.declared.SettlingCounts.{SettlingCounts}
 use Rattle.attempt.specs.Counting.{inRow, inAll}
 use Rattle.attempt.specs.Settling.{readyCounted, grown, outCounted, begunAnew, watched, settledOne, settledTwo, secondOne, secondTwo}
+use Rattle.attempt.specs.Laws.{Settled, FirstMost, NextMost}
 use Rattle.attempt.proofs.Tests.{or-left, or-right}
 
 pub row-most : (most : ℕ) (b : Bool) (n : ℕ) → n ≤ most → inRow b n ≤ suc most
@@ -21,13 +19,6 @@ row-most most b n h = on-pick (λ (x : ℕ). x ≤ suc most) b _ _ (λ _. omega 
 pub all-most : (most : ℕ) (b : Bool) (n : ℕ) → n ≤ most → inAll b n ≤ suc most
 unfolding inAll
 all-most most b n h = on-pick (λ (x : ℕ). x ≤ suc most) b _ _ (λ _. omega arith) (λ _. omega arith)
-
--- The counts of settling: the greatest n, and the rest.
-pub record Settled (most : ℕ) (k : SettlingCounts) : Type 0 where
-  pub seconds : k .seconds ≤ most
-  pub ready : k .ready ≤ 11
-  pub row : k .row ≤ 1
-  pub all : k .all ≤ 4
 
 anew-most :
     (most : ℕ) (k : SettlingCounts) →
@@ -68,14 +59,10 @@ two-most near isReady k seconds ready row all =
     on-pick (Settled 15) (eqb (k .seconds) 0 && not near) _ _ (λ e. omega arith) (λ e. omega arith)
 
 -- n is at most 25 after a second of settling in mode 1, at most 15 in mode 2.
-pub first-most :
-    (v : Vehicle) (s : Second) (k : SettlingCounts) →
-    k .seconds ≤ 24 → k .ready ≤ 10 → k .row ≤ 1 → k .all ≤ 4 → Settled 25 (secondOne v s k)
+pub first-most : FirstMost
 unfolding secondOne
 first-most v s k = one-most _ _ k
 
-pub next-most :
-    (v : Vehicle) (s : Second) (k : SettlingCounts) →
-    k .seconds ≤ 14 → k .ready ≤ 10 → k .row ≤ 1 → k .all ≤ 4 → Settled 15 (secondTwo v s k)
+pub next-most : NextMost
 unfolding secondTwo
 next-most v s k = two-most _ _ k

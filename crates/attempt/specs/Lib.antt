@@ -4,3 +4,4 @@ pub mod Ready
 pub mod Settling
 pub mod Ending
 pub mod Measuring
+pub mod Laws

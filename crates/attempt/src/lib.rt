@@ -4,7 +4,7 @@
 ghost use mathlib.Core.Path.{_≡_};
 ghost use Rattle.refusal.specs.Choice.{pick};
 ghost use Rattle.attempt.specs.Counting.{bump, inRow, inAll};
-ghost use Rattle.attempt.specs.Screening.{waits, diluted, screened};
+ghost use Rattle.attempt.specs.Screening.{waits, diluted, flawOf, screened};
 ghost use Rattle.attempt.specs.Ready.{within, ready};
 ghost use Rattle.attempt.specs.Settling.{
   readyCounted,
@@ -18,6 +18,7 @@ ghost use Rattle.attempt.specs.Settling.{
 };
 ghost use Rattle.attempt.specs.Ending.{speedHeld, atNinety, endingRule};
 ghost use Rattle.attempt.specs.Measuring.{tallied, windowCounted, restarts};
+ghost use Rattle.attempt.specs.Laws.{ScreenedExactly, SixHundred, FirstMost, NextMost, HeldExactly, RuledExactly};
 use reading::Second;
 use vehicle::Mode;
 use vehicle::Vehicle;
@@ -105,21 +106,27 @@ fn diluted(s: Second) -> bool
     correction::dilution_sum(s.co2(), s.co()) < 600
 }
 
+fn flaw_of(over: bool, thin: bool) -> Screen
+    ensures { λ r. ⌜ r ≡ flawOf over thin ⌝ }
+{
+    if over {
+        return Screen::Flawed(6);
+    }
+    if thin {
+        return Screen::Flawed(5);
+    }
+    Screen::Clear
+}
+
 // What a second is before its stage is looked at.
 // Ruled out: a diluted second over range void 5, and dilution looked at while the test waits.
 pub fn screened(counted: u8, s: Second) -> Screen
-    ensures { λ r. ⌜ r ≡ screened counted s ⌝ }
+    ensures { λ r. ⌜ (r ≡ screened counted s) × ScreenedExactly × SixHundred ⌝ }
 {
     if waits(counted, s) {
         return Screen::Waits;
     }
-    if s.over() {
-        return Screen::Flawed(6);
-    }
-    if diluted(s) {
-        return Screen::Flawed(5);
-    }
-    Screen::Clear
+    flaw_of(s.over(), diluted(s))
 }
 
 fn within(k: u16, speed: u16, target: u16) -> bool
@@ -208,7 +215,7 @@ fn settled_two(near: bool, k: SettlingCounts) -> SettlingCounts
 // A counted second of settling in mode 1.
 // Ruled out: n that starts at a second more than 50 from target, and u counted past n = 20.
 pub fn second_one(v: Vehicle, s: Second, k: SettlingCounts) -> SettlingCounts
-    ensures { λ r. ⌜ r ≡ secondOne v s k ⌝ }
+    ensures { λ r. ⌜ (r ≡ secondOne v s k) × FirstMost ⌝ }
 {
     let far = !within(50, s.speed(), vehicle::target(v, Mode::One));
     settled_one(far, ready_counted(ready(v, Mode::One, s), k))
@@ -217,7 +224,7 @@ pub fn second_one(v: Vehicle, s: Second, k: SettlingCounts) -> SettlingCounts
 // A counted second of settling in mode 2.
 // Ruled out: n that starts at a second more than 15 from target, and n that stops at one.
 pub fn second_two(v: Vehicle, s: Second, k: SettlingCounts) -> SettlingCounts
-    ensures { λ r. ⌜ r ≡ secondTwo v s k ⌝ }
+    ensures { λ r. ⌜ (r ≡ secondTwo v s k) × NextMost ⌝ }
 {
     let near = within(15, s.speed(), vehicle::target(v, Mode::Two));
     settled_two(near, ready_counted(ready(v, Mode::Two, s), k))
@@ -282,7 +289,7 @@ pub fn restarts(k: MeasuringCounts) -> bool
 // Whether the speed of second 10 is at most 8 below that of second 1.
 // Ruled out: 9 below taken, and a speed above second 1's refused.
 pub fn speed_held(first: u16, tenth: u16) -> bool
-    ensures { λ r. ⌜ r ≡ speedHeld first tenth ⌝ }
+    ensures { λ r. ⌜ (r ≡ speedHeld first tenth) × HeldExactly ⌝ }
 {
     (first as u32) <= (tenth as u32) + 8
 }
@@ -302,7 +309,7 @@ fn at_ninety(k: WindowCounts) -> Ending
 // The ending rule.
 // Ruled out: a pass at t = 24, and a mode that ends at t = 90 with 15 passing.
 pub fn ending_rule(t: u8, k: WindowCounts, held: bool) -> Ending
-    ensures { λ r. ⌜ r ≡ endingRule t k held ⌝ }
+    ensures { λ r. ⌜ (r ≡ endingRule t k held) × RuledExactly ⌝ }
 {
     if (25 <= t) & (15 <= k.passing) & held {
         return Ending::Passes;

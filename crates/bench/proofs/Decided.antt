@@ -1,18 +1,15 @@
 -- What the plain history's answer to one event says of the table's rows, of the locks and of the steps. Assumes nothing.
 use Prim.Native.Nat.{ℕ, _≤_}
 use native.Mathlib.Omega.{arith}
-use mathlib.Core.Bool.{true, false, false≢true, not}
+use mathlib.Core.Bool.{true, false, false≢true}
 use mathlib.Core.Path.{_≡_, refl, ap, sym, _∙_}
 use mathlib.Core.Logic.{_↔_}
 use mathlib.Core.List.{List}
 use mathlib.Core.Option.{Option, none, some}
 use borrow.Author.Tests.{eqb-true, not-false, le-ltb}
-use lib.Dec.{ltb, eqb}
 use Rattle.refusal.specs.declared.Refusal.{Refusal}
 use Rattle.correction.specs.Humidity.{saturationFit}
 use Rattle.vehicle.specs.declared.Settings.{Settings}
-use Rattle.vehicle.specs.declared.Mode.{Mode}
-use Rattle.vehicle.specs.declared.Mode.the-variants.{Two}
 use Rattle.vehicle.specs.Settings.{unfitPlace}
 use Rattle.loaded_test.specs.declared.Verdict.{Verdict}
 use Rattle.loaded_test.specs.declared.Did.{Did}
@@ -22,15 +19,12 @@ use Rattle.loaded_test.specs.declared.Answer.{Answer as TestAnswer}
 use Rattle.loaded_test.specs.declared.Answer.the-variants as test-answer
 use Rattle.loaded_test.specs.declared.Test.{Test}
 use Rattle.loaded_test.specs.Log.{Input, step}
-use Rattle.bench.specs.declared.Answer.{Answer}
 use Rattle.bench.specs.declared.Answer.the-variants as answer
 use Rattle.locks.specs.declared.Event.{Event}
 use Rattle.locks.specs.declared.Event.the-variants.{PowerOn, ClockSetting, WarmUp, Calibration, Try, AuthorityLock, AuthorityUnlock, Upload, Start, Second, Stop}
-use Rattle.locks.specs.Accepted.{Accepted, accepted}
 use Rattle.bench.specs.History.{History, runs}
 use Rattle.bench.specs.Causes.{Cause, settingAt, saturationBad, causeBad, automaticIn, readingAt, lockAt, causes, firstCause}
 use Rattle.bench.specs.Telling.{inputOf, verdictNext, verdictTold, endedBy, stepTaken, outcomeOf, acceptance, added, judged, tell}
-use Rattle.vehicle.specs.Settings.{automatic}
 use Rattle.bench.specs.Demand.{isAccepted, NoneStand, Unlocked, Gives}
 use Rattle.bench.proofs.Kept.{none-stand, stand-none, unlocked, no-lock}
 

@@ -1,22 +1,14 @@
 -- Demand 3, whole: the bench's run and the plain history, event by event and over every list. Assumes nothing.
 use Prim.Native.Nat.{ℕ, _≤_}
 use native.Mathlib.Omega.{arith}
-use mathlib.Core.Bool.{Bool, true, false, false≢true, _&&_}
 use mathlib.Core.Path.{_≡_, refl, ap, sym, _∙_, subst, subst⁻¹}
 use mathlib.Core.List.{List, [], _∷_}
 use mathlib.Core.Option.{Option, none, some}
-use borrow.Author.Tests.{leb-true}
-use lib.Dec.{leb}
 use Rattle.vehicle.specs.Checked.{vehicleOf}
 use Rattle.loaded_test.specs.declared.Test.{Test}
-use Rattle.loaded_test.specs.Log.{replay}
-use Rattle.loaded_test.specs.Claim.{Earned}
 use Rattle.loaded_test.specs.Laws.{Bounded as TestBounded}
 use Rattle.loaded_test.proofs.Passing.{bounded as test-within}
-use Rattle.bench.specs.declared.Answer.{Answer}
 use Rattle.bench.specs.declared.Answer.the-variants as answer
-use Rattle.bench.specs.declared.Bench.{Bench}
-use Rattle.bench.specs.declared.Opened.{Opened}
 use Rattle.locks.specs.declared.Event.{Event}
 use Rattle.locks.specs.declared.Event.the-variants.{Start}
 use Rattle.locks.specs.Accepted.{Accepted, accepted, since, latestOf}
@@ -24,10 +16,11 @@ use Rattle.locks.specs.Locks.{verdictsIn, unsentIn}
 use Rattle.bench.specs.History.{History, freshHistory, runs}
 use Rattle.bench.specs.Causes.{automaticOf}
 use Rattle.bench.specs.Telling.{tell, historyAfter, historyAnswers}
-use Rattle.bench.specs.Stepping.{step, freshBench, parametersFit, openedOf}
-use Rattle.vehicle.specs.Settings.{automatic}
+use Rattle.bench.specs.Stepping.{step, freshBench}
+use Rattle.bench.specs.Running.{inputsSince}
 use Rattle.bench.specs.Passes.{pass, PassEarned}
-use Rattle.bench.specs.Demand.{benchAfter, benchAnswers, answerAfter, historyOf, Gives, Demand3, Bounded, Opens}
+use Rattle.bench.specs.Demand.{benchAfter, benchAnswers, answerAfter, historyOf, Gives, Demand3}
+use Rattle.bench.specs.Claims.{Bounded}
 use Rattle.locks.proofs.Kept.{fresh-of, wrong-most, unsent-same}
 use Rattle.bench.proofs.Summary.{testOr, summary}
 use Rattle.bench.proofs.Sound.{Follows, Runs, Sound}
@@ -68,10 +61,10 @@ module _ (validity limit : ℕ) (fit : limit ≤ 255) where
       ap (λ l. tell validity limit h e .answer ∷ l) (answers-after es (tell validity limit h e .history) (kept validity limit h e s))
 
   -- The history of a list is sound, and the bench's answer to an event after it is the history's.
-  sound : (es : List Event) → Sound limit (historyOf validity limit es)
+  pub sound : (es : List Event) → Sound limit (historyOf validity limit es)
   sound es = sound-after es freshHistory (fresh-sound limit)
 
-  told : (es : List Event) (e : Event) → answerAfter validity limit es e ≡ tell validity limit (historyOf validity limit es) e .answer
+  pub told : (es : List Event) (e : Event) → answerAfter validity limit es e ≡ tell validity limit (historyOf validity limit es) e .answer
   told es e =
       ap (λ b. step (benchAfter b es) e .answer) (sym (fresh-summary validity limit)) ∙
       ap (λ b. step b e .answer) (after es freshHistory (fresh-sound limit)) ∙
@@ -110,9 +103,9 @@ module _ (validity limit : ℕ) (fit : limit ≤ 255) where
   test-bounded l none r = omega arith
   test-bounded l (some t) r =
       subst⁻¹ (λ (y : Test). TestBounded (y .progress)) (r .2 .replayed)
-      (test-within (vehicleOf (r .2 .settings) (r .2 .saturation)) (r .2 .inputs))
+      (test-within (vehicleOf (r .2 .settings) (r .2 .saturation)) (inputsSince l))
 
-  -- No counter of the bench or of its test is at its cap.
+  -- The greatest counts of the bench and of its test.
   pub bounded : (es : List Event) → Bounded limit (benchAfter (freshBench validity limit) es)
   bounded es =
       subst (Bounded limit)
@@ -122,21 +115,3 @@ module _ (validity limit : ℕ) (fit : limit ≤ 255) where
         unsent = rw unsent-same (sound es .unsent);
         test = test-bounded (historyOf validity limit es .events) (historyOf validity limit es .test) (sound es .test);
       })
-
-and-right : (a b : Bool) → a && b ≡ true → b ≡ true
-and-right true b h = h
-and-right false b h = absurd (false≢true h)
-
-fit-limit : (validity limit : ℕ) → parametersFit validity limit ≡ true → limit ≤ 255
-fit-limit validity limit h =
-    leb-true limit 255
-    (and-right (leb 1 limit) (leb limit 255)
-    (and-right (leb 1 validity && leb validity 2592000) (leb 1 limit && leb limit 255) h))
-
--- What is opened carries the claim.
-pub opens : (validity limit : ℕ) (r : Opened) → r ≡ openedOf validity limit → Opens validity limit r
-opens validity limit r h = record {
-  result = h;
-  demand = λ f. demanded validity limit (fit-limit validity limit f);
-  bounded = λ f. bounded validity limit (fit-limit validity limit f);
-}

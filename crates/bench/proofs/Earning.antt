@@ -1,7 +1,7 @@
 -- The pass claim, lifted from one test's log to the accepted events and their own readings. Assumes nothing.
 use Prim.Native.Nat.{ℕ}
 use native.Mathlib.Omega.{arith}
-use mathlib.Core.Bool.{Bool, not}
+use mathlib.Core.Bool.{Bool}
 use mathlib.Core.Path.{_≡_, refl, ap, sym, _∙_, subst}
 use mathlib.Core.List.{List, [], _∷_}
 use mathlib.Core.Option.{Option, none, some}
@@ -20,13 +20,13 @@ use Rattle.loaded_test.specs.declared.Test.{Test}
 use Rattle.loaded_test.specs.Log.{Input, aSecond, aStop, Entry, step, replay, logged, logOf}
 use Rattle.loaded_test.specs.Claim.{Measures, more as measuresMore, Earned, PassClaim}
 use Rattle.loaded_test.proofs.Passing.{passes}
-use Rattle.bench.specs.declared.Answer.the-variants as answer
 use Rattle.locks.specs.declared.Event.{Event}
 use Rattle.locks.specs.declared.Event.the-variants.{PowerOn, ClockSetting, WarmUp, Calibration, Try, AuthorityLock, AuthorityUnlock, Upload, Start, Second, Stop}
 use Rattle.locks.specs.Accepted.{Accepted, accepted, since}
 use Rattle.bench.specs.Causes.{automaticIn}
 use Rattle.bench.specs.Telling.{secondInput, inputOf}
 use Rattle.vehicle.specs.Settings.{automatic}
+use Rattle.bench.specs.Running.{inputsSince}
 use Rattle.bench.specs.Passes.{Since, seconded, stopped, Reads, noMore, before, pass, PassEarned}
 use Rattle.bench.proofs.Sound.{Follows}
 
@@ -90,7 +90,6 @@ earned-pass l e test i did t passing failing f given told = record {
   settings = f .settings;
   saturation = f .saturation;
   fit = f .fit;
-  inputs = f .inputs;
   since = f .since;
   entry = entry;
   told = told′;
@@ -99,7 +98,7 @@ earned-pass l e test i did t passing failing f given told = record {
   seconds =
       newest-reads e (some (pass t passing failing)) (automatic (f .settings)) (earned .last) (earned .before) l
       (subst (λ b. inputOf b e ≡ some (aSecond (earned .last))) (f .gearbox) (given ∙ ap some (earned .isSecond)))
-      (reads (f .settings) (f .saturation) (earned .before) l (logOf v (f .inputs)) (earned .measured) (f .since));
+      (reads (f .settings) (f .saturation) (earned .before) l (logOf v (inputsSince l)) (earned .measured) (f .since));
 }
   where
     v : Vehicle
@@ -108,11 +107,11 @@ earned-pass l e test i did t passing failing f given told = record {
     entry : Entry
     entry = record { input = i; did = did; next = Ends (pass t passing failing) }
 
-    told′ : step (replay v (f .inputs)) i .answer ≡ test-answer.Told did (Ends (pass t passing failing))
+    told′ : step (replay v (inputsSince l)) i .answer ≡ test-answer.Told did (Ends (pass t passing failing))
     told′ = subst (λ y. step y i .answer ≡ test-answer.Told did (Ends (pass t passing failing))) (f .replayed) told
 
-    newest : logOf v (i ∷ f .inputs) ≡ entry ∷ logOf v (f .inputs)
+    newest : logOf v (i ∷ inputsSince l) ≡ entry ∷ logOf v (inputsSince l)
     newest = rw told′
 
-    earned : Earned v entry (logOf v (f .inputs)) t passing failing
-    earned = subst (PassClaim v) newest (passes v (i ∷ f .inputs)) t passing failing refl
+    earned : Earned v entry (logOf v (inputsSince l)) t passing failing
+    earned = subst (PassClaim v) newest (passes v (i ∷ inputsSince l)) t passing failing refl

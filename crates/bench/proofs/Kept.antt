@@ -16,7 +16,7 @@ use Rattle.reading.specs.Units.{secondOf, unfitCode}
 use Rattle.correction.specs.Humidity.{saturationFit}
 use Rattle.vehicle.specs.declared.Settings.{Settings}
 use Rattle.vehicle.specs.Settings.{unfitPlace}
-use Rattle.vehicle.specs.declared.Checked.the-variants.{Fit, Refused}
+use Rattle.vehicle.specs.declared.Checked.the-variants.{Fit}
 use Rattle.vehicle.specs.Checked.{vehicleOf, checkedOf}
 use Rattle.loaded_test.specs.declared.Verdict.{Verdict}
 use Rattle.loaded_test.specs.declared.Did.{Did}
@@ -24,9 +24,9 @@ use Rattle.loaded_test.specs.declared.Next.{Next}
 use Rattle.loaded_test.specs.declared.Next.the-variants.{GoesOn, Rests, RestEnded, ModeTwo, Ends}
 use Rattle.loaded_test.specs.declared.Answer.the-variants.{Told}
 use Rattle.loaded_test.specs.declared.Test.{Test}
-use Rattle.loaded_test.specs.Steps.{begin, begunBy, causeFit, second, stop}
+use Rattle.loaded_test.specs.Steps.{begin, begunBy, causeFit}
 use Rattle.loaded_test.specs.Log.{Input, aSecond, aStop, Entry, step, replay, logged, logOf}
-use Rattle.loaded_test.specs.Going.{hasEnded, endsIn, Goes}
+use Rattle.loaded_test.specs.Going.{isRunning, endsIn, Goes}
 use Rattle.loaded_test.proofs.Going.{second-goes, stop-goes}
 use Rattle.locks.specs.declared.Event.{Event}
 use Rattle.locks.specs.declared.Event.the-variants.{PowerOn, ClockSetting, WarmUp, Calibration, Try, AuthorityLock, AuthorityUnlock, Upload, Start, Second, Stop}
@@ -36,7 +36,7 @@ use Rattle.locks.specs.Locks.{withVerdict, verdictsIn, unsentIn, unsentLock, lo
 use Rattle.bench.specs.History.{History, runs}
 use Rattle.bench.specs.Causes.{Cause, settingAt, saturationBad, causeBad, automaticOf, automaticIn, readingAt, lockAt, causes, firstCause}
 use Rattle.bench.specs.Telling.{secondInput, verdictNext, verdictTold, endedBy, stepTaken, outcomeOf, added, judged, tell}
-use Rattle.vehicle.specs.Settings.{automatic}
+use Rattle.bench.specs.Running.{withInput, inputsOf, inputsSince}
 use Rattle.bench.specs.Passes.{Since, started, seconded, stopped}
 use Rattle.bench.specs.Demand.{NoneStand, Unlocked}
 use Rattle.bench.proofs.Sound.{Follows, Runs, Sound}
@@ -103,23 +103,23 @@ module _ (l : List Accepted) (t : Test) (f : Follows l t) (e : Event) (i : Input
       (did : Did) (next : Next) →
       step t i .answer ≡ Told did next →
       automaticIn (accepted e none ∷ l) ≡ automaticIn l →
+      inputsSince (accepted e none ∷ l) ≡ i ∷ inputsSince l →
       ((x : Entry) (log : List Entry) →
       x .input ≡ i →
       Since (f .settings) (f .saturation) l log →
       Since (f .settings) (f .saturation) (accepted e none ∷ l) (x ∷ log)) →
       Follows (accepted e none ∷ l) (step t i .test)
   unfolding replay logOf logged
-  follows-on did next told a more = record {
+  follows-on did next told a given more = record {
     settings = f .settings;
     saturation = f .saturation;
     fit = f .fit;
     gearbox = a ∙ f .gearbox;
-    inputs = i ∷ f .inputs;
-    replayed = ap (λ y. step y i .test) (f .replayed);
+    replayed = rw given (ap (λ y. step y i .test) (f .replayed));
     since =
-        let g : step (replay (vehicleOf (f .settings) (f .saturation)) (f .inputs)) i .answer ≡ Told did next =
+        let g : step (replay (vehicleOf (f .settings) (f .saturation)) (inputsSince l)) i .answer ≡ Told did next =
         subst (λ y. step y i .answer ≡ Told did next) (f .replayed) told in
-        rw g (more (record { input = i; did = did; next = next }) _ refl (f .since));
+        rw (given, g) (more (record { input = i; did = did; next = next }) _ refl (f .since));
   }
 
 module _ (validity limit : ℕ) (l : List Accepted) (last : ℕ) where
@@ -161,7 +161,7 @@ module _ (validity limit : ℕ) (l : List Accepted) (last : ℕ) where
       unsentIn l < limit →
       checkedOf settings p ≡ Fit (vehicleOf settings p) →
       Runs limit (accepted (Start clock settings p) none ∷ l) (some (begin settings p .test))
-  unfolding begin begunBy hasEnded unsentIn since pick verdictsIn withVerdict automaticOf latestOf orElse replay logOf
+  unfolding begin begunBy isRunning unsentIn since pick verdictsIn withVerdict automaticOf latestOf orElse replay logOf inputsOf
   begun-runs clock settings p u fit =
       rw fit (
         refl,
@@ -171,7 +171,6 @@ module _ (validity limit : ℕ) (l : List Accepted) (last : ℕ) where
           saturation = p;
           fit = fit;
           gearbox = refl;
-          inputs = [];
           replayed = refl;
           since = started;
         },
@@ -196,7 +195,7 @@ module _ (validity limit : ℕ) (l : List Accepted) (last : ℕ) where
       ((v : Option Verdict) → unsentIn (accepted e v ∷ l) ≡ withVerdict v (unsentIn l)) →
       unsentIn l < limit →
       (t′ : Test) →
-      hasEnded (t′ .progress .stage) ≡ endsIn next →
+      isRunning (t′ .progress .stage) ≡ not (endsIn next) →
       (endsIn next ≡ false → Follows (accepted e none ∷ l) t′) →
       Sound limit (added (at (some t)) e (endedBy (verdictNext next) t′) .history)
   unfolding added endedBy verdictNext endsIn withVerdict
@@ -212,16 +211,17 @@ module _ (validity limit : ℕ) (l : List Accepted) (last : ℕ) where
       Runs limit l (some t) →
       ((v : Option Verdict) → unsentIn (accepted e v ∷ l) ≡ withVerdict v (unsentIn l)) →
       automaticIn (accepted e none ∷ l) ≡ automaticIn l →
+      inputsSince (accepted e none ∷ l) ≡ i ∷ inputsSince l →
       ((f : Follows l t) (x : Entry) (log : List Entry) →
       x .input ≡ i →
       Since (f .settings) (f .saturation) l log →
       Since (f .settings) (f .saturation) (accepted e none ∷ l) (x ∷ log)) →
       Sound limit (added (at (some t)) e (stepTaken (some t) (some i)) .history)
   unfolding stepTaken verdictTold
-  input-kept e t i g r c a more =
+  input-kept e t i g r c a given more =
       rw (g .told)
       (next-kept e t (g .next) c (r .1) (step t i .test) (g .stage)
-      (λ _. follows-on l t (r .2) e i (g .did) (g .next) (g .told) a (more (r .2))))
+      (λ _. follows-on l t (r .2) e i (g .did) (g .next) (g .told) a given (more (r .2))))
 
   second-kept :
       (clock : ℕ) (readings : Readings) (t : Test) (x : Converted) →
@@ -230,9 +230,9 @@ module _ (validity limit : ℕ) (l : List Accepted) (last : ℕ) where
       ((y : Refusal) → x ≡ converted.Refused y → eqb (y .place) 0 ≡ false) →
       Runs limit l (some t) →
       Sound limit (added (at (some t)) (Second clock readings) (stepTaken (some t) (secondInput x)) .history)
-  unfolding secondInput unfitCode unsentIn since pick verdictsIn latestOf orElse
+  unfolding secondInput unfitCode unsentIn since pick verdictsIn latestOf orElse inputsOf withInput
   second-kept clock readings t (converted.Fit s) e k z r =
-      input-kept (Second clock readings) t (aSecond s) (second-goes t s (r .0)) r (λ _. refl) refl
+      input-kept (Second clock readings) t (aSecond s) (second-goes t s (r .0)) r (λ _. refl) refl (rw e)
       (λ f x log i since. seconded (subst (λ b. secondOf readings b ≡ converted.Fit s) (f .gearbox) e) i since)
   second-kept clock readings t (converted.Refused y) e k z r = absurd (true≢false (sym k ∙ z y refl))
 
@@ -241,9 +241,9 @@ module _ (validity limit : ℕ) (l : List Accepted) (last : ℕ) where
       causeFit cause ≡ true →
       Runs limit l (some t) →
       Sound limit (added (at (some t)) (Stop clock cause) (stepTaken (some t) (some (aStop cause))) .history)
-  unfolding unsentIn since pick verdictsIn latestOf orElse
+  unfolding unsentIn since pick verdictsIn latestOf orElse inputsOf withInput
   stop-kept clock cause t c r =
-      input-kept (Stop clock cause) t (aStop cause) (stop-goes t cause c (r .0)) r (λ _. refl) refl
+      input-kept (Stop clock cause) t (aStop cause) (stop-goes t cause c (r .0)) r (λ _. refl) refl refl
       (λ f x log i since. stopped i since)
 
   accepted-kept : (o : Option Test) (e : Event) → Kept o e

@@ -1,7 +1,11 @@
 pub mod Summary
 pub mod Sound
+pub mod Refusing
 pub mod Tied
 pub mod Kept
+pub mod Given
+pub mod Firsts
 pub mod Decided
 pub mod Earning
 pub mod Demanded
+pub mod Lawful

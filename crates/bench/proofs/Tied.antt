@@ -7,16 +7,16 @@ use mathlib.Core.List.{List, _∷_}
 use mathlib.Core.Option.{Option, none, some}
 use lib.Dec.{leb, eqb}
 use lib.ListN.{drop}
+use borrow.Author.Tests.{ne-eqb}
 use Rattle.refusal.specs.Choice.{pick}
 use Rattle.refusal.specs.Table.{settingUnfit, saturationUnfit, readingUnfit, startLocked}
 use Rattle.refusal.specs.declared.Refusal.{Refusal}
 use Rattle.reading.specs.declared.Readings.{Readings}
-use Rattle.reading.specs.declared.Level.{Level}
-use Rattle.reading.specs.declared.Judged.{Judged}
-use Rattle.reading.specs.declared.Judged.the-variants as level-judged
 use Rattle.reading.specs.declared.Converted.{Converted}
 use Rattle.reading.specs.declared.Converted.the-variants as converted
-use Rattle.reading.specs.Units.{secondOf, keep, unfitCode}
+use Rattle.reading.specs.Units.{secondOf, unfitCode}
+use Rattle.reading.specs.Fitness.{leastUnfit, ToldBy}
+use Rattle.reading.proofs.Least.{least-refused}
 use Rattle.correction.specs.Humidity.{saturationFit}
 use Rattle.vehicle.specs.declared.Settings.{Settings}
 use Rattle.vehicle.specs.Settings.{unfitPlace}
@@ -29,7 +29,7 @@ use Rattle.loaded_test.specs.declared.Start.the-variants as test-start
 use Rattle.loaded_test.specs.declared.Test.{Test}
 use Rattle.loaded_test.specs.declared.Stepped.{Stepped}
 use Rattle.loaded_test.specs.Steps.{begin, begunBy, causeFit, second, stop}
-use Rattle.loaded_test.specs.Going.{hasEnded, Goes}
+use Rattle.loaded_test.specs.Going.{isRunning, Goes}
 use Rattle.loaded_test.proofs.Going.{second-goes, stop-goes, stop-refused}
 use Rattle.bench.specs.declared.Bench.{Bench}
 use Rattle.bench.specs.declared.Handled.{Handled}
@@ -42,9 +42,8 @@ use Rattle.locks.specs.Locks.{lockOf, unsentIn}
 use Rattle.locks.specs.State.{locksAfter, verdictCounted}
 use Rattle.locks.proofs.Kept.{locksOf, locks-after, second-counted, stop-counted, lock-number}
 use Rattle.bench.specs.History.{History, runs}
-use Rattle.bench.specs.Causes.{Cause, outsideTest, insideTest, settingAt, saturationBad, causeBad, automaticOf, automaticIn, readingAt, lockAt, causes, firstCause}
+use Rattle.bench.specs.Causes.{outsideTest, insideTest, settingAt, saturationBad, causeBad, automaticOf, automaticIn, readingAt, lockAt, causes, firstCause}
 use Rattle.bench.specs.Telling.{secondInput, verdictNext, verdictTold, leaves, endedBy, stepTaken, acceptance, added, judged, tell}
-use Rattle.bench.specs.declared.Ruling.{Ruling}
 use Rattle.bench.specs.declared.Ruling.the-variants as ruling
 use Rattle.bench.specs.Stepping.{refused, withTest, withNone, plainTaken, firstRefusal, fitness, lockRuling, startJudged, startTaken, judgedWith, followed, answered, secondTaken, stopTaken, taken, deskRuling, ruled, step}
 use Rattle.bench.proofs.Summary.{testOr, summary, summarised}
@@ -65,27 +64,13 @@ abbrev pub Coded : Converted → Type 0
 Coded (converted.Fit s) = Unit {0}
 Coded (converted.Refused r) = (r ≡ readingUnfit (r .place)) × (eqb (r .place) 0 ≡ false)
 
-keep-coded :
-    (code : ℕ) (j : Judged) (next : Level → Converted) →
-    eqb code 0 ≡ false →
-    ((x : Level) → Coded (next x)) →
-    Coded (keep code j next)
-unfolding keep
-keep-coded code level-judged.Unfit next c h = (refl, c)
-keep-coded code (level-judged.Fit x) next c h = h x
+told-coded : (n : ℕ) (x : Converted) → ToldBy n x → Coded x
+unfolding ToldBy
+told-coded n (converted.Fit s) h = tt
+told-coded n (converted.Refused r) h = rw (h .0) (refl, ne-eqb n 0 (λ e. omega arith))
 
 pub coded : (r : Readings) (automatic : Bool) → Coded (secondOf r automatic)
-unfolding secondOf
-coded r automatic =
-    keep-coded 1 _ _ refl λ _.
-    keep-coded 2 _ _ refl λ _.
-    keep-coded 3 _ _ refl λ _.
-    keep-coded 4 _ _ refl λ _.
-    keep-coded 5 _ _ refl λ _.
-    keep-coded 6 _ _ refl λ _.
-    keep-coded 7 _ _ refl λ _.
-    keep-coded 8 _ _ refl λ _.
-    tt
+coded r automatic = told-coded (leastUnfit automatic r) _ (least-refused r automatic)
 
 -- A start of unfit settings or p is refused 4 or 5; any other begins.
 begin-answer :
@@ -230,7 +215,7 @@ module _ (validity limit : ℕ) (l : List Accepted) (last : ℕ) where
 
   second-tied :
       (clock : ℕ) (readings : Readings) (t : Test) →
-      hasEnded (t .progress .stage) ≡ false →
+      isRunning (t .progress .stage) ≡ true →
       unsentIn l < 65535 →
       Tied (some t) (Second clock readings)
   unfolding causes firstCause settingAt saturationBad causeBad readingAt unfitCode lockAt runs testOr secondTaken secondInput stepTaken judged pick latestOf orElse
@@ -245,7 +230,7 @@ module _ (validity limit : ℕ) (l : List Accepted) (last : ℕ) where
 
   stop-tied :
       (clock cause : ℕ) (t : Test) →
-      hasEnded (t .progress .stage) ≡ false →
+      isRunning (t .progress .stage) ≡ true →
       unsentIn l < 65535 →
       Tied (some t) (Stop clock cause)
   unfolding causes firstCause settingAt saturationBad causeBad readingAt lockAt runs testOr stopTaken stepTaken judged pick latestOf orElse

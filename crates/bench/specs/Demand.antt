@@ -16,19 +16,17 @@ use Rattle.loaded_test.specs.declared.Next.the-variants.{Ends}
 use Rattle.loaded_test.specs.declared.Answer.the-variants.{Told}
 use Rattle.loaded_test.specs.declared.Test.{Test}
 use Rattle.loaded_test.specs.Log.{Input, step as testStep}
-use Rattle.loaded_test.specs.Laws.{Bounded as TestBounded}
 use Rattle.bench.specs.declared.Answer.{Answer}
 use Rattle.bench.specs.declared.Answer.the-variants.{Accepted as AnswerAccepted, Judged, Refused}
 use Rattle.bench.specs.declared.Bench.{Bench}
 use Rattle.locks.specs.declared.Event.{Event}
 use Rattle.locks.specs.declared.Event.the-variants.{Start}
-use Rattle.bench.specs.declared.Opened.{Opened}
 use Rattle.locks.specs.Accepted.{Accepted}
 use Rattle.locks.specs.Locks.{notWarm, inactive, notCalibrated, notSignedIn, passwordLock, authorityLock, unsentLock}
 use Rattle.bench.specs.History.{History, freshHistory}
 use Rattle.bench.specs.Causes.{Cause, causes, firstCause, automaticIn}
 use Rattle.bench.specs.Telling.{inputOf, historyAfter, historyAnswers}
-use Rattle.bench.specs.Stepping.{step, freshBench, parametersFit, openedOf}
+use Rattle.bench.specs.Stepping.{step, freshBench}
 use Rattle.bench.specs.Passes.{PassEarned, pass}
 
 -- "Each call gets the state the last returned": the bench after a list of events, and what it answers to each.
@@ -112,18 +110,3 @@ pub record Demand3 (validity limit : ℕ) : Type 0 where
       (es : List Event) (e : Event) (t passing failing : ℕ) →
       answerAfter validity limit es e ≡ Judged (pass t passing failing) →
       PassEarned (historyOf validity limit es .events) e t passing failing
-
--- No counter of the test is at its cap; wrong tries are counted up to the four that lock, unsent verdicts up to U.
-pub record Bounded (limit : ℕ) (b : Bench) : Type 0 where
-  pub wrong : b .desk .locks .security .wrong ≤ 4
-  pub unsent : b .desk .locks .unsent ≤ limit
-  pub test : TestBounded (b .test .progress)
-
--- What opening a bench gives, with the claim about every list of events from it.
-pub record Opens (validity limit : ℕ) (r : Opened) : Type 0 where
-  pub result : r ≡ openedOf validity limit
-  pub demand : parametersFit validity limit ≡ true → Demand3 validity limit
-  pub bounded :
-      parametersFit validity limit ≡ true →
-      (es : List Event) →
-      Bounded limit (benchAfter (freshBench validity limit) es)

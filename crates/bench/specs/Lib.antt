@@ -2,5 +2,8 @@ pub mod History
 pub mod Causes
 pub mod Telling
 pub mod Stepping
+pub mod Running
 pub mod Passes
 pub mod Demand
+pub mod Laws
+pub mod Claims

@@ -17,11 +17,12 @@ use Rattle.loaded_test.specs.declared.Word.the-variants.{Pass}
 use Rattle.loaded_test.specs.declared.Verdict.{Verdict}
 use Rattle.loaded_test.specs.declared.Next.the-variants.{Ends}
 use Rattle.loaded_test.specs.declared.Answer.the-variants.{Told}
-use Rattle.loaded_test.specs.Log.{Input, aSecond, aStop, Entry, step, replay, logOf}
+use Rattle.loaded_test.specs.Log.{aSecond, aStop, Entry, step, replay, logOf}
 use Rattle.loaded_test.specs.Claim.{Earned}
 use Rattle.locks.specs.declared.Event.{Event}
 use Rattle.locks.specs.declared.Event.the-variants.{Start, Second, Stop}
 use Rattle.locks.specs.Accepted.{Accepted, accepted}
+use Rattle.bench.specs.Running.{inputsSince}
 
 -- A pass with its t and its counts of windows.
 abbrev pub pass : ℕ → ℕ → ℕ → Verdict
@@ -58,16 +59,15 @@ pub record PassEarned (l : List Accepted) (e : Event) (t passing failing : ℕ) 
   pub settings : Settings
   pub saturation : ℕ
   pub fit : checkedOf settings saturation ≡ Fit (vehicleOf settings saturation)
-  -- what document 01's steps tell of each second and stop since that start
-  pub inputs : List Input
-  pub since : Since settings saturation l (logOf (vehicleOf settings saturation) inputs)
+  -- what document 01's steps tell of each accepted second and stop since that start
+  pub since : Since settings saturation l (logOf (vehicleOf settings saturation) (inputsSince l))
   -- what they tell of this event
   pub entry : Entry
-  pub told : step (replay (vehicleOf settings saturation) inputs) (entry .input) .answer ≡ Told (entry .did) (entry .next)
+  pub told : step (replay (vehicleOf settings saturation) (inputsSince l)) (entry .input) .answer ≡ Told (entry .did) (entry .next)
   pub ends : entry .next ≡ Ends (pass t passing failing)
   -- t, the attempt, the seconds' cleanness, the ending rule and the counts of windows
   pub earned :
-      Earned (vehicleOf settings saturation) entry (logOf (vehicleOf settings saturation) inputs) t passing failing
+      Earned (vehicleOf settings saturation) entry (logOf (vehicleOf settings saturation) (inputsSince l)) t passing failing
   -- those seconds are the last t accepted events, this one included, by their own readings
   pub seconds :
       Reads (automatic settings) (earned .last ∷ earned .before) (accepted e (some (pass t passing failing)) ∷ l)

@@ -183,9 +183,9 @@ freshBench validity limit = record {
 abbrev pub parametersFit : ℕ → ℕ → Bool
 parametersFit validity limit = leb 1 validity && leb validity 2592000 && (leb 1 limit && leb limit 255)
 
--- "V or U unfit" is refused 15; what comes with the refusal is the bench of the least V and U.
+-- "V or U unfit" is refused 15; what comes with the refusal is a bench of U = 0, on which lock 7 stands for ever.
 unfoldable pub openedOf : ℕ → ℕ → Opened
 openedOf validity limit =
     pick (parametersFit validity limit)
     (record { answer = opening.Opens; bench = freshBench validity limit })
-    (record { answer = opening.Refused causeUnfit; bench = freshBench 1 1 })
+    (record { answer = opening.Refused causeUnfit; bench = freshBench 1 0 })

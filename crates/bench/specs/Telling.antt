@@ -20,7 +20,7 @@ use Rattle.bench.specs.declared.Answer.the-variants as answer
 use Rattle.locks.specs.declared.Event.{Event}
 use Rattle.locks.specs.declared.Event.the-variants.{PowerOn, ClockSetting, WarmUp, Calibration, Try, AuthorityLock, AuthorityUnlock, Upload, Start, Second, Stop}
 use Rattle.locks.specs.Events.{clockAfter}
-use Rattle.locks.specs.Accepted.{Accepted, accepted}
+use Rattle.locks.specs.Accepted.{accepted}
 use Rattle.bench.specs.History.{History}
 use Rattle.bench.specs.Causes.{automaticIn, causes, firstCause}
 

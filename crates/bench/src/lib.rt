@@ -3,7 +3,8 @@
 // specs/History.antt, Causes.antt and Telling.antt are the plain history; specs/Demand.antt is demand 3, which open carries.
 ghost use mathlib.Core.Path.{_≡_};
 ghost use Rattle.bench.specs.Stepping.{deskRuling, freshBench, step};
-ghost use Rattle.bench.specs.Demand.{Opens};
+ghost use Rattle.bench.specs.Claims.{Opens};
+ghost use Rattle.bench.specs.Laws.{BackIfRefused};
 ghost use Rattle.refusal.specs.Table.{refusal};
 
 mod taking;
@@ -79,7 +80,7 @@ fn fresh_bench(validity: u32, limit: u16) -> Bench
     }
 }
 
-// A fresh bench of V and U, or refusal 15; with it comes the claim of demand 3 about every list of events from that bench.
+// A fresh bench of V and U, or refusal 15 with a bench that admits no start; with it comes demand 3 about every list of events.
 // Ruled out: U = 256 taken, and a bench that opens with a lock lifted.
 pub fn open(validity: u32, limit: u16) -> Opened
     ensures { λ r. ⌜ Opens validity limit r ⌝ }
@@ -95,7 +96,7 @@ pub fn open(validity: u32, limit: u16) -> Opened
             number: 15,
             place: 0,
         }),
-        bench: fresh_bench(1, 1),
+        bench: fresh_bench(1, 0),
     }
 }
 
@@ -125,7 +126,7 @@ fn desk_ruling(desk: Desk, event: Event) -> Ruling
 // One event: its answer and the next bench. 11, 12 or 13, then 4, 5, 15 or 8, then 14; a refused event gives back the same bench.
 // Ruled out: a refused event that moves the clock, and a start told of its lock before its settings are looked at.
 pub fn step(bench: Bench, event: Event) -> Handled
-    ensures { λ r. ⌜ r ≡ step bench event ⌝ }
+    ensures { λ r. ⌜ (r ≡ step bench event) × BackIfRefused bench r ⌝ }
 {
     let desk = bench.desk;
     ruled(desk_ruling(desk, event), bench, event)

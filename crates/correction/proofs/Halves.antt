@@ -1,9 +1,9 @@
 -- Rounding half up by quotient and remainder. Assumes nothing.
 use mathlib.Core.Path.{_≡_}
 use Prim.Native.Nat.{ℕ, _+_, _-_, _*_, _/_, _%_, _<_, _≤_}
-use native.Mathlib.Nat.{div-add-mod', mod-lt, div-eq-of-lt-le, div-zero, div-lt-iff-lt-mul, mul-le-mul-left}
+use native.Mathlib.Nat.{div-add-mod', mod-lt, div-eq-of-lt-le, div-zero, div-lt-iff-lt-mul, mul-le-mul-left, mul-div-le, lt-mul-div-succ}
 use native.Mathlib.Omega.{arith}
-use Rattle.correction.specs.Rounding.{halfUp}
+use Rattle.correction.specs.Rounding.{halfUp, HalfUpExact}
 
 -- A divisor 0 gives 0.
 pub none : (a b : ℕ) → b ≡ 0 → halfUp a b ≡ 0
@@ -31,3 +31,10 @@ at-most a b q h l =
     let pos : 0 < 2 * b = omega arith in
     let less : (2 * a + b) / (2 * b) < q + 1 = div-lt-iff-lt-mul pos .1 (omega arith) in
     omega arith
+
+-- Every quotient is rounded half up.
+pub half-up-exact : HalfUpExact
+unfolding halfUp
+half-up-exact a b h =
+    let pos : 0 < 2 * b = omega arith in
+    (mul-div-le (2 * a + b) (2 * b), lt-mul-div-succ (2 * a + b) pos)

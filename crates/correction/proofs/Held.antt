@@ -1,6 +1,6 @@
 -- DCF by cases on D, and the two values that it is held within. Assumes nothing.
 use mathlib.Core.Path.{_≡_}
-use Prim.Native.Nat.{ℕ, _^_, _≤_}
+use Prim.Native.Nat.{ℕ, _^_}
 use native.Mathlib.Omega.{arith}
 use borrow.Author.Tests.{eq-eqb, ne-eqb}
 use Rattle.refusal.specs.Choice.{pick}
@@ -9,6 +9,7 @@ use Rattle.reading.specs.declared.Tenths.{Tenths}
 use Rattle.reading.specs.declared.Hundredths.{Hundredths}
 use Rattle.correction.specs.Rounding.{halfUp}
 use Rattle.correction.specs.Dilution.{dilutionDivisor, held, dcfOf}
+use Rattle.correction.specs.Claims.{Held}
 
 module _ (co2 : Tenths) (co : Hundredths) (d : ℕ) (e : d ≡ dilutionDivisor co2 co) where
   -- D = 0 gives 3,000,000.
@@ -22,10 +23,6 @@ module _ (co2 : Tenths) (co : Hundredths) (d : ℕ) (e : d ≡ dilutionDivisor c
   at-other q n f = rw (← e, ne-eqb d 0 n, ← f)
 
 -- DCF is from 1,000,000 to 3,000,000 for every pair of counts.
-pub record Within (x : ℕ) : Type 0 where
-  pub least : 1000000 ≤ x
-  pub greatest : x ≤ 3000000
-
-pub dcf-within : (co2 : Tenths) (co : Hundredths) → Within (dcfOf co2 co)
+pub dcf-held : (co2 : Tenths) (co : Hundredths) → Held (dcfOf co2 co)
 unfolding dcfOf
-dcf-within co2 co = on-pick Within _ _ _ (λ _. omega arith) (λ _. omega arith)
+dcf-held co2 co = on-pick Held _ _ _ (λ _. omega arith) (λ _. omega arith)

@@ -1,11 +1,13 @@
--- Document 01's reduced forms of AB1 and AB2 are the annex's own fractions. Assumes nothing.
+-- Document 01's reduced forms of AB1 and AB2 are the annex's own fractions, and the claims of the crate together. Assumes nothing.
 use mathlib.Core.Path.{_≡_, ap}
 use Prim.Native.Nat.{ℕ, _+_, _*_, _^_}
 use native.Mathlib.Nat.{zero-mul, mul-zero, zero-add, add-zero, one-mul, mul-one, mul-pos}
 use native.Mathlib.Omega.{arith}
-use Rattle.correction.proofs.Ranges.{InRange, in-range}
+use Rattle.correction.proofs.Held.{dcf-held}
+use Rattle.correction.proofs.Ranges.{InRange, in-range, divisor-positive, k-within}
 use Rattle.correction.specs.Humidity.{dryPressure, humidityDivisor}
 use Rattle.correction.specs.Annex.{Same, ratio, annexK, DilutionReduced, HumidityReduced}
+use Rattle.correction.specs.Claims.{DilutionClaims, HumidityClaims}
 
 ruleset zeros = (zero-mul, mul-zero, zero-add, add-zero, one-mul, mul-one)
 
@@ -30,3 +32,15 @@ pub humidity-reduced : HumidityReduced
 humidity-reduced r b p hr hb hp =
     let h = in-range r b p hr hb hp in
     same-at r b p (dryPressure r b p) (humidityDivisor r b p) h (omega arith) (omega arith)
+
+pub dilution-claims : DilutionClaims
+dilution-claims = record { reduced = dilution-reduced; held = dcf-held }
+
+pub humidity-claims : HumidityClaims
+humidity-claims =
+    record {
+      reduced = humidity-reduced;
+      divides = λ r b p hr hb hp.
+          let h = in-range r b p hr hb hp in
+          record { positive = divisor-positive r b p h; most = k-within r b p h };
+    }

@@ -2,3 +2,4 @@ pub mod Rounding
 pub mod Dilution
 pub mod Humidity
 pub mod Annex
+pub mod Claims

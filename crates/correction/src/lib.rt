@@ -1,9 +1,9 @@
 // The dilution sum, the dilution correction DCF and the humidity correction k_H of document 01's "Corrections", in whole
-// numbers. Exports: dilution_sum, dcf, Factor, humidity_factor, the three ranges that k_H rests on, and half_up, the rounding
+// numbers. Exports: dilution_sum, dcf, Factor, humidity_factor, the range of a saturation pressure, and half_up, the rounding
 // of every quotient that is rounded to the unit.
 
 ghost use mathlib.Core.Path.{_≡_};
-ghost use Rattle.correction.specs.Rounding.{halfUp};
+ghost use Rattle.correction.specs.Rounding.{halfUp, HalfUpExact};
 ghost use Rattle.correction.specs.Dilution.{dilutionSum, dilutionDivisor, dcfOf};
 ghost use Rattle.correction.specs.Humidity.{
   humidityFit,
@@ -11,6 +11,7 @@ ghost use Rattle.correction.specs.Humidity.{
   saturationFit,
   humidityFactor,
 };
+ghost use Rattle.correction.specs.Claims.{DilutionClaims, HumidityClaims};
 use reading::Hundredths;
 use reading::Tenths;
 
@@ -20,10 +21,10 @@ pub enum Factor {
     Unfit,
 }
 
-// a/b rounded half up, for all numbers of 64 bits; 0 where b is 0.
+// a/b rounded half up, for all numbers of 64 bits; 0 where b is 0. With it comes the claim that every quotient is so rounded.
 // Ruled out: 1/2 giving 0, and 2a + b wrapping for a large a.
 pub fn half_up(a: u64, b: u64) -> u64
-    ensures { λ r. ⌜ r ≡ halfUp a b ⌝ }
+    ensures { λ r. ⌜ (r ≡ halfUp a b) × HalfUpExact ⌝ }
 {
     if b == 0 {
         return 0;
@@ -51,10 +52,10 @@ fn dilution_divisor(co2: Tenths, co: Hundredths) -> u64
     65_240 * (co2.0 as u64) + 4_644 * (co.0 as u64)
 }
 
-// DCF in millionths, for every pair of counts.
+// DCF in millionths, for every pair of counts. With it come the claims that it is annex AB1's fraction and that it is held.
 // Ruled out: a quotient rounded down, and a DCF above 3 where there is little or no carbon.
 pub fn dcf(co2: Tenths, co: Hundredths) -> u32
-    ensures { λ r. ⌜ r ≡ dcfOf co2 co ⌝ }
+    ensures { λ r. ⌜ (r ≡ dcfOf co2 co) × DilutionClaims ⌝ }
 {
     let d = dilution_divisor(co2, co);
     if d == 0 {
@@ -71,16 +72,14 @@ pub fn dcf(co2: Tenths, co: Hundredths) -> u32
 }
 
 // Humidity in %: 0 to 100.
-// Ruled out: 101 taken, and 0 refused.
-pub fn humidity_fit(humidity: u16) -> bool
+fn humidity_fit(humidity: u16) -> bool
     ensures { λ r. ⌜ r ≡ humidityFit humidity ⌝ }
 {
     humidity <= 100
 }
 
 // Pressure in 0.1 kPa: 800 to 1100.
-// Ruled out: 799 taken, and 1100 refused.
-pub fn pressure_fit(pressure: u16) -> bool
+fn pressure_fit(pressure: u16) -> bool
     ensures { λ r. ⌜ r ≡ pressureFit pressure ⌝ }
 {
     (800 <= pressure) & (pressure <= 1_100)
@@ -94,10 +93,11 @@ pub fn saturation_fit(saturation: u16) -> bool
     (500 <= saturation) & (saturation <= 4_300)
 }
 
-// k_H in millionths from humidity r, pressure B and saturation pressure p, each tested here.
+// k_H in millionths from humidity r, pressure B and saturation pressure p, each tested here. With it come the claims that it is annex
+// AB2's fraction, that its divisor is above zero and how large it is at most.
 // Ruled out: k worked out from a humidity of 101, and 10^12·E wrapping at B = 1100.
 pub fn humidity_factor(humidity: u16, pressure: u16, saturation: u16) -> Factor
-    ensures { λ r. ⌜ r ≡ humidityFactor humidity pressure saturation ⌝ }
+    ensures { λ r. ⌜ (r ≡ humidityFactor humidity pressure saturation) × HumidityClaims ⌝ }
 {
     if !(humidity_fit(humidity) & (pressure_fit(pressure) & saturation_fit(saturation))) {
         return Factor::Unfit;

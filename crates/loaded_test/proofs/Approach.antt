@@ -1,12 +1,11 @@
 -- Rest and settling leave all that holds of a test standing. Assumes nothing.
 use Prim.Native.Nat.{ℕ, _-_, _≤_, _<_}
 use native.Mathlib.Omega.{arith}
-use mathlib.Core.Bool.{Bool, false, not, _&&_}
+use mathlib.Core.Bool.{Bool, false, _&&_}
 use mathlib.Core.Path.{_≡_, refl, ap, subst, subst⁻¹}
 use mathlib.Core.List.{List, [], _∷_}
 use lib.Dec.{leb, ltb, eqb}
 use borrow.Author.Tests.{eqb-false, leb-false}
-use Rattle.refusal.specs.Choice.{pick}
 use Rattle.refusal.proofs.Picked.{on-pick}
 use Rattle.reading.specs.declared.Second.{Second}
 use Rattle.vehicle.specs.declared.Vehicle.{Vehicle}
@@ -18,23 +17,24 @@ use Rattle.loaded_test.specs.declared.Did.{Did}
 use Rattle.loaded_test.specs.declared.Did.the-variants.{Nothing, MeasuringBegan, Measured, Restarted, Voided}
 use Rattle.loaded_test.specs.declared.Next.the-variants.{GoesOn, RestEnded, Ends}
 use Rattle.loaded_test.specs.declared.Stage.{Stage}
-use Rattle.loaded_test.specs.declared.Stage.the-variants.{Settling, Measuring, Rest}
+use Rattle.loaded_test.specs.declared.Stage.the-variants.{Settling, Rest}
 use Rattle.loaded_test.specs.declared.VoidCounts.{VoidCounts}
 use Rattle.attempt.specs.declared.SettlingCounts.{SettlingCounts}
 use Rattle.loaded_test.specs.declared.Progress.{Progress}
 use Rattle.loaded_test.specs.State.{emptied, turn, withCounted, withResting, withSettling}
 use Rattle.attempt.specs.Counting.{inRow}
-use Rattle.loaded_test.specs.Voids.{voided}
 use Rattle.loaded_test.specs.Rest.{restCount, rested}
 use Rattle.attempt.specs.Settling.{secondOne, secondTwo}
 use Rattle.attempt.proofs.Tests.{nonsense, or-left}
-use Rattle.attempt.proofs.Most.{row-most, Settled, first-most, next-most}
+use Rattle.attempt.specs.Laws.{Settled}
+use Rattle.attempt.proofs.Most.{row-most, first-most, next-most}
 use Rattle.loaded_test.specs.Settling.{measuringFrom, settlingLeft, closedOne, closedTwo, settlesIn, settles}
 use Rattle.loaded_test.specs.Log.{Entry, Input}
-use Rattle.loaded_test.specs.Claim.{modeAfter, modeIn, begins, voids, InAttempt, begun, goesOn, none, noSecond}
+use Rattle.loaded_test.specs.Claim.{modeAfter, modeIn, begins, voids, InAttempt, begun, goesOn, none, noSecond, attemptIn}
 use Rattle.loaded_test.specs.Windows.{outRow, longestOut, outAll, passingIn, failingIn, speedAt}
 use Rattle.loaded_test.specs.Laws.{voidAdded, voidsKept, voidsIn}
-use Rattle.loaded_test.proofs.Holding.{mostSettling, someValid, tallyOf, Told, Open, AtStage, Good, entry, Resting}
+use Rattle.loaded_test.proofs.Counting.{Counts, attempt-begins, attempt-goes}
+use Rattle.loaded_test.proofs.Holding.{mostSettling, someValid, tallyOf, Told, Open, AtStage, Good, entry}
 use Rattle.loaded_test.proofs.Voiding.{going-ends-not, silent, voided-good, five-good}
 
 ended-ends-not : (y : Verdict) → RestEnded ≡ Ends y → ⊥
@@ -86,6 +86,7 @@ module _ (v : Vehicle) (i : Input) (log : List Entry) (last : List window.Measur
           told = record { mode = told .mode; voids = told .voids; nines = told .nines; voidsLeft = told .voidsLeft; ninesLeft = told .ninesLeft };
           bounds = omega arith;
           attempt = begun refl;
+          counting = attempt-begins _ _ refl;
         };
         claims = silent v i log (turn Nothing RestEnded (emptied (p .mode) Settling (p .voids))) refl ended-ends-not;
       })
@@ -101,9 +102,10 @@ module _ (v : Vehicle) (i : Input) (log : List Entry) (last : List window.Measur
       Open p →
       1 ≤ p .counted →
       InAttempt log →
+      Counts (i ∷ attemptIn log) (p .counted) →
       Good v i log last (turn MeasuringBegan GoesOn (measuringFrom p))
   unfolding voids tallyOf outRow longestOut outAll passingIn failingIn speedAt someValid
-  began-good p told bounds least attempt = record {
+  began-good p told bounds least attempt counting = record {
     stage = record {
       told = told-on i log MeasuringBegan refl told;
       bounds = omega arith;
@@ -119,6 +121,7 @@ module _ (v : Vehicle) (i : Input) (log : List Entry) (last : List window.Measur
         few = omega arith;
         notYet = tt;
       };
+      counting = attempt-goes i MeasuringBegan log _ counting;
     };
     claims = silent v i log (turn MeasuringBegan GoesOn (measuringFrom p)) refl going-ends-not;
   }
@@ -132,6 +135,7 @@ module _ (v : Vehicle) (i : Input) (log : List Entry) (last : List window.Measur
       p .counted ≤ 145 →
       1 ≤ p .counted →
       InAttempt log →
+      Counts (i ∷ attemptIn log) (p .counted) →
       k .row ≤ 1 →
       k .all ≤ 4 →
       (starts ≡ false → k .ready ≤ 10) →
@@ -141,10 +145,10 @@ module _ (v : Vehicle) (i : Input) (log : List Entry) (last : List window.Measur
       mostSettling (p .mode) ≤ 24 →
       Good v i log last (settlingLeft starts used k p)
   unfolding settlingLeft voids
-  left-good starts used k p stage told bounds most least attempt row all ready seconds s25 r11 m24 =
+  left-good starts used k p stage told bounds most least attempt counting row all ready seconds s25 r11 m24 =
       on-pick (Good v i log last) starts _ _
       (λ e. five-good v i log last MeasuringBegan (measuringFrom p) told (omega arith)
-      (λ h. began-good p told (omega arith) least attempt))
+      (λ h. began-good p told (omega arith) least attempt counting))
       (λ e. on-pick (Good v i log last) used _ _
       (λ f. voided-good v i log last 7 (withSettling k p) told (omega arith))
       (λ f. five-good v i log last Nothing (withSettling k p) told (omega arith)
@@ -156,6 +160,7 @@ module _ (v : Vehicle) (i : Input) (log : List Entry) (last : List window.Measur
         told = told-on i log Nothing refl told;
         bounds = omega arith;
         attempt = goesOn refl refl attempt;
+        counting = attempt-goes i Nothing log _ counting;
       })))))
 
   -- A counted second of settling.
@@ -168,23 +173,24 @@ module _ (v : Vehicle) (i : Input) (log : List Entry) (last : List window.Measur
       p .counted ≤ 145 →
       1 ≤ p .counted →
       InAttempt log →
+      Counts (i ∷ attemptIn log) (p .counted) →
       Good v i log last (settlesIn m v s p)
   unfolding settlesIn closedOne closedTwo mostSettling
-  settles-in s One p mode stage told bounds most least attempt =
+  settles-in s One p mode stage told bounds most least attempt counting =
       let m24 : mostSettling (p .mode) ≡ 24 = ap mostSettling mode in
       let b : p .settling .seconds ≤ mostSettling (p .mode) = bounds .seconds in
       let k = secondOne v s (p .settling) in
       let h : Settled 25 k = first-most v s (p .settling) (omega arith) (bounds .ready) (bounds .row) (bounds .all) in
-      left-good _ _ k p stage told bounds most least attempt (h .row) (h .all)
+      left-good _ _ k p stage told bounds most least attempt counting (h .row) (h .all)
       (λ e. let f : k .ready < 11 = leb-false _ _ (or-left (leb 11 (k .ready)) (eqb (k .seconds) 25 && leb 5 (k .ready)) e) in omega arith)
       (λ e. let f : k .seconds ≡ 25 → ⊥ = eqb-false _ _ e in omega arith)
       (h .seconds) (h .ready) (omega arith)
-  settles-in s Two p mode stage told bounds most least attempt =
+  settles-in s Two p mode stage told bounds most least attempt counting =
       let m14 : mostSettling (p .mode) ≡ 14 = ap mostSettling mode in
       let b : p .settling .seconds ≤ mostSettling (p .mode) = bounds .seconds in
       let k = secondTwo v s (p .settling) in
       let h : Settled 15 k = next-most v s (p .settling) (omega arith) (bounds .ready) (bounds .row) (bounds .all) in
-      left-good _ _ k p stage told bounds most least attempt (h .row) (h .all)
+      left-good _ _ k p stage told bounds most least attempt counting (h .row) (h .all)
       (λ e. let f : k .ready < 5 = leb-false _ _ e in omega arith)
       (λ e. let f : k .seconds ≡ 15 → ⊥ = eqb-false _ _ e in omega arith)
       (omega arith) (h .ready) (omega arith)
@@ -197,6 +203,7 @@ module _ (v : Vehicle) (i : Input) (log : List Entry) (last : List window.Measur
       p .counted ≤ 145 →
       1 ≤ p .counted →
       InAttempt log →
+      Counts (i ∷ attemptIn log) (p .counted) →
       Good v i log last (settles v s p)
   unfolding settles
   settles-good s p = settles-in s (p .mode) p refl

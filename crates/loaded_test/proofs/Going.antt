@@ -1,7 +1,7 @@
--- A test that has not ended takes every second and every stop of a fit cause, and has ended exactly where a verdict was told.
+-- A test that runs takes every second and every stop of a fit cause, and runs on but where a verdict was told.
 -- Assumes nothing.
 use Prim.Native.Nat.{ℕ}
-use mathlib.Core.Bool.{Bool, true, false, _||_}
+use mathlib.Core.Bool.{Bool, true, false, not, _||_}
 use mathlib.Core.Path.{_≡_, refl, sym, ap, _∙_, subst}
 use lib.Dec.{eqb}
 use Rattle.refusal.specs.Choice.{pick}
@@ -23,10 +23,9 @@ use Rattle.attempt.proofs.Tests.{nonsense}
 use Rattle.loaded_test.specs.declared.Word.{Word}
 use Rattle.loaded_test.specs.declared.Verdict.{Verdict}
 use Rattle.loaded_test.specs.declared.Did.{Did}
-use Rattle.loaded_test.specs.declared.Next.{Next}
 use Rattle.loaded_test.specs.declared.Next.the-variants.{Ends}
 use Rattle.loaded_test.specs.declared.Stage.{Stage}
-use Rattle.loaded_test.specs.declared.Stage.the-variants.{Settling, Measuring, Rest, Ended}
+use Rattle.loaded_test.specs.declared.Stage.the-variants.{NotBegun, Settling, Measuring, Rest, Ended}
 use Rattle.loaded_test.specs.declared.VoidCounts.{VoidCounts}
 use Rattle.loaded_test.specs.declared.Progress.{Progress}
 use Rattle.loaded_test.specs.declared.Turn.{Turn}
@@ -37,25 +36,25 @@ use Rattle.loaded_test.specs.Rest.{rested}
 use Rattle.loaded_test.specs.Settling.{settlingLeft, closedOne, closedTwo, settlesIn, settles}
 use Rattle.loaded_test.specs.Measuring.{closed, concluded, judged, measures}
 use Rattle.loaded_test.specs.Steps.{taken, measured, inAttempt, secondAt, second, causeFit, stopTaken, stop}
-use Rattle.loaded_test.specs.Going.{hasEnded, endsIn, Goes}
+use Rattle.loaded_test.specs.Going.{isRunning, hasEnded, endsIn, Goes}
 use Rattle.loaded_test.proofs.Voiding.{same-end}
 
--- A turn has ended the test exactly where it tells a verdict, with its word and its counts.
+-- After a turn the test runs, but where the turn tells a verdict: then it has ended, with that word and those counts.
 record Level (x : Turn) : Type 0 where
-  stage : hasEnded (x .progress .stage) ≡ endsIn (x .next)
+  stage : isRunning (x .progress .stage) ≡ not (endsIn (x .next))
   verdict :
       (v : Verdict) →
       x .next ≡ Ends v →
       (x .progress .stage ≡ Ended (v .word)) × (v ≡ verdictOf (v .word) (x .progress .measuring))
 
--- No verdict is told, and the test is open.
+-- No verdict is told, and the test runs.
 open-level :
-    (x : Turn) → hasEnded (x .progress .stage) ≡ false → endsIn (x .next) ≡ false → Level x
+    (x : Turn) → isRunning (x .progress .stage) ≡ true → endsIn (x .next) ≡ false → Level x
 unfolding endsIn
 open-level x e f = record { stage = rw (e, f); verdict = λ v q. absurd (nonsense (sym (ap endsIn q) ∙ f)) }
 
 ended-level : (d : Did) (w : Word) (k : VoidCounts) (p : Progress) → Level (ended d w k p)
-unfolding hasEnded endsIn
+unfolding isRunning endsIn
 ended-level d w k p = record {
   stage = refl;
   verdict = λ v q.
@@ -66,12 +65,12 @@ turned : (x : Test) (y : Turn) → Level y → Goes (stepped x y)
 turned x y h = record { did = y .did; next = y .next; told = refl; stage = h .stage; verdict = h .verdict }
 
 mode-level : (m : Mode) (d : Did) (k : VoidCounts) (p : Progress) → Level (modeEnded m d k p)
-unfolding modeEnded hasEnded endsIn
+unfolding modeEnded isRunning endsIn
 mode-level One d k p = open-level _ refl refl
 mode-level Two d k p = ended-level d _ k p
 
 void-level : (n : ℕ) (p : Progress) → Level (voided n p)
-unfolding voided voidFollowed voidNext hasEnded endsIn
+unfolding voided voidFollowed voidNext isRunning endsIn
 void-level n p =
     on-pick Level (twiceInconclusive (voidCounted n (p .voids))) _ _
     (λ _. mode-level (p .mode) _ _ p)
@@ -79,13 +78,13 @@ void-level n p =
     (λ _. ended-level _ _ _ p)
     (λ _. open-level _ refl refl))
 
-five-level : (d : Did) (q : Progress) → hasEnded (q .stage) ≡ false → Level (stepFive d q)
+five-level : (d : Did) (q : Progress) → isRunning (q .stage) ≡ true → Level (stepFive d q)
 unfolding stepFive endsIn
 five-level d q e = on-pick Level (eqb (q .counted) 145) _ _ (λ _. void-level 8 q) (λ _. open-level _ e refl)
 
-module _ (p : Progress) (running : hasEnded (p .stage) ≡ false) where
+module _ (p : Progress) (running : isRunning (p .stage) ≡ true) where
   left-level : (starts used : Bool) (k : SettlingCounts) → Level (settlingLeft starts used k p)
-  unfolding settlingLeft hasEnded
+  unfolding settlingLeft isRunning
   left-level starts used k =
       on-pick Level starts _ _
       (λ _. five-level _ _ refl)
@@ -97,7 +96,7 @@ module _ (p : Progress) (running : hasEnded (p .stage) ≡ false) where
   settles-level Two v s = left-level _ _ _
 
   rest-level : (k : ℕ) → Level (rested k p)
-  unfolding rested hasEnded endsIn
+  unfolding rested isRunning endsIn
   rest-level k = on-pick Level (eqb k 10) _ _ (λ _. open-level _ refl refl) (λ _. open-level _ running refl)
 
   closed-level : (e : Ending) (k : MeasuringCounts) → Level (closed e (withMeasuring k p))
@@ -119,10 +118,10 @@ module _ (p : Progress) (running : hasEnded (p .stage) ≡ false) where
       (λ _. turned x _ (five-level _ _ running))
       (λ _. let h = closed-level _ _ in record { did = _; next = _; told = refl; stage = h .stage; verdict = h .verdict })
 
--- What a second of a test that has not ended comes to.
+-- What a second of a test that runs comes to.
 attempt-goes :
     (x : Test) (s : Second) (y : Screen) (measuring : Bool) →
-    hasEnded (x .progress .stage) ≡ false →
+    isRunning (x .progress .stage) ≡ true →
     Goes (inAttempt y measuring x s)
 unfolding inAttempt endsIn settles taken measured
 attempt-goes x s Waits measuring e = turned x _ (open-level _ e refl)
@@ -134,26 +133,36 @@ attempt-goes x s Clear measuring e =
 
 at-goes :
     (x : Test) (s : Second) (st : Stage) →
-    hasEnded (x .progress .stage) ≡ false →
-    hasEnded st ≡ false →
+    isRunning (x .progress .stage) ≡ true →
+    isRunning st ≡ true →
     Goes (secondAt st x s)
-unfolding secondAt hasEnded
+unfolding secondAt isRunning
+at-goes x s NotBegun e o = absurd (nonsense (sym o))
 at-goes x s Settling e o = attempt-goes x s _ false e
 at-goes x s Measuring e o = attempt-goes x s _ true e
 at-goes x s Rest e o = turned x _ (rest-level (x .progress) e _)
-at-goes x s (Ended w) e o = absurd (nonsense o)
+at-goes x s (Ended w) e o = absurd (nonsense (sym o))
 
-pub second-goes : (x : Test) (s : Second) → hasEnded (x .progress .stage) ≡ false → Goes (second x s)
+pub second-goes : (x : Test) (s : Second) → isRunning (x .progress .stage) ≡ true → Goes (second x s)
 unfolding second
 second-goes x s e = at-goes x s (x .progress .stage) e e
 
 pub stop-goes :
-    (x : Test) (n : ℕ) → causeFit n ≡ true → hasEnded (x .progress .stage) ≡ false → Goes (stop x n)
+    (x : Test) (n : ℕ) → causeFit n ≡ true → isRunning (x .progress .stage) ≡ true → Goes (stop x n)
 unfolding stop pick
 stop-goes x n f e = rw (e, f) (turned x _ (stop-level (x .progress) e _ n))
 
--- A stop of an unfit cause is refused 15 by a test that has not ended.
+-- A stop of an unfit cause is refused 15 by a test that runs.
 pub stop-refused :
-    (x : Test) (n : ℕ) → causeFit n ≡ false → hasEnded (x .progress .stage) ≡ false → stop x n ≡ refused causeUnfit x
+    (x : Test) (n : ℕ) → causeFit n ≡ false → isRunning (x .progress .stage) ≡ true → stop x n ≡ refused causeUnfit x
 unfolding stop pick
 stop-refused x n f e = rw (e, f)
+
+-- A test that runs has no verdict.
+pub running-open : (st : Stage) → isRunning st ≡ true → hasEnded st ≡ false
+unfolding isRunning hasEnded
+running-open NotBegun e = refl
+running-open Settling e = refl
+running-open Measuring e = refl
+running-open Rest e = refl
+running-open (Ended w) e = sym e

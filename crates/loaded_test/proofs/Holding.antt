@@ -12,7 +12,7 @@ use Rattle.vehicle.specs.declared.Mode.the-variants.{One, Two}
 use Rattle.window.specs.declared.Measured.{Measured}
 use Rattle.window.specs.Measuring.{measuredOf}
 use Rattle.loaded_test.specs.declared.Stage.{Stage}
-use Rattle.loaded_test.specs.declared.Stage.the-variants.{Settling, Measuring, Rest, Ended}
+use Rattle.loaded_test.specs.declared.Stage.the-variants.{NotBegun, Settling, Measuring, Rest, Ended}
 use Rattle.attempt.specs.declared.MeasuringCounts.{MeasuringCounts}
 use Rattle.loaded_test.specs.declared.VoidCounts.{VoidCounts}
 use Rattle.loaded_test.specs.declared.Progress.{Progress}
@@ -21,8 +21,9 @@ use Rattle.loaded_test.specs.declared.Test.{Test}
 use Rattle.loaded_test.specs.declared.Stepped.{Stepped}
 use Rattle.loaded_test.specs.Windows.{outRow, longestOut, outAll, validHere, passingIn, failingIn, speedAt}
 use Rattle.loaded_test.specs.Log.{Entry, Input, logged}
-use Rattle.loaded_test.specs.Claim.{modeIn, InAttempt, Measures, AllClean, NotYetIn, PassClaim}
+use Rattle.loaded_test.specs.Claim.{modeIn, InAttempt, Measures, AllClean, attemptIn, NotYetIn, PassClaim}
 use Rattle.loaded_test.specs.Laws.{Bounded, voidsIn, ninesIn, VoidClaim, IncompleteClaim, FailClaim}
+use Rattle.loaded_test.proofs.Counting.{Counts}
 
 -- The last n of settling before it ends.
 unfoldable pub mostSettling : Mode → ℕ
@@ -90,17 +91,20 @@ pub record Settles (log : List Entry) (p : Progress) : Type 0 where
   pub told : Told log (p .mode) (p .voids)
   pub bounds : Open p
   pub attempt : InAttempt log
+  pub counting : Counts (attemptIn log) (p .counted)
 
 pub record Runs (v : Vehicle) (log : List Entry) (p : Progress) (last : List Measured) : Type 0 where
   pub told : Told log (p .mode) (p .voids)
   pub bounds : Open p
   pub running : Running v log p last
+  pub counting : Counts (attemptIn log) (p .counted)
 
 pub record Resting (log : List Entry) (p : Progress) : Type 0 where
   pub told : Told log (p .mode) (p .voids)
   pub bounds : Open p
 
 abbrev pub AtStage : Stage → Vehicle → List Entry → Progress → List Measured → Type 0
+AtStage NotBegun v log p last = ⊥
 AtStage Settling v log p last = Settles log p
 AtStage Measuring v log p last = Runs v log p last
 AtStage Rest v log p last = Resting log p

@@ -1,4 +1,5 @@
 pub mod Entries
+pub mod Counting
 pub mod Holding
 pub mod Voiding
 pub mod Approach

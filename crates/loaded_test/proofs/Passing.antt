@@ -1,10 +1,10 @@
 -- The pass claim and the laws, for every list of seconds and stops from the beginning of a test. Assumes nothing.
-use Prim.Native.Nat.{ℕ, _+_, _-_, _≤_}
+use Prim.Native.Nat.{ℕ, suc, _≤_, _<_}
 use native.Mathlib.Omega.{arith}
 use mathlib.Core.Bool.{Bool, true, false, _||_}
 use mathlib.Core.Path.{_≡_, refl, sym, ap, _∙_, subst, subst⁻¹}
 use mathlib.Core.List.{List, [], _∷_, _++_, map}
-use lib.Dec.{leb, eqb}
+use lib.Dec.{eqb}
 use lib.ListN.{length, take, length-take}
 use lib.Seq.{take-all, take-take, take-append-le}
 use borrow.Author.Tests.{eqb-true}
@@ -16,22 +16,24 @@ use Rattle.window.specs.declared.Measured.{Measured}
 use Rattle.window.specs.Measuring.{measuredOf}
 use Rattle.loaded_test.specs.declared.Did.the-variants.{Nothing}
 use Rattle.loaded_test.specs.declared.Stage.{Stage}
-use Rattle.loaded_test.specs.declared.Stage.the-variants.{Settling, Measuring, Rest, Ended}
+use Rattle.loaded_test.specs.declared.Stage.the-variants.{NotBegun, Settling, Measuring, Rest, Ended}
 use Rattle.attempt.specs.declared.Screen.{Screen}
-use Rattle.attempt.specs.declared.Screen.the-variants.{Clear}
+use Rattle.attempt.specs.declared.Screen.the-variants.{Waits, Flawed, Clear}
 use Rattle.loaded_test.specs.declared.Progress.{Progress}
 use Rattle.loaded_test.specs.declared.Test.{Test}
-use Rattle.loaded_test.specs.State.{turn, nothing, refused}
-use Rattle.loaded_test.specs.Going.{hasEnded}
-use Rattle.loaded_test.specs.Voids.{voided}
-use Rattle.attempt.specs.Screening.{waits, diluted, screened}
+use Rattle.loaded_test.specs.State.{nothing}
+use Rattle.loaded_test.specs.Going.{isRunning}
+use Rattle.attempt.specs.Screening.{screened}
+use Rattle.attempt.specs.Laws.{Screens}
+use Rattle.attempt.proofs.Screens.{screened-exactly}
 use Rattle.loaded_test.specs.Steps.{counted, taken, measured, inAttempt, secondAt, second, isResting, causeFit, stopTaken, stop}
 use Rattle.loaded_test.specs.Windows.{windowOf}
 use Rattle.loaded_test.specs.Log.{Entry, Input, aSecond, aStop, step, replay, logged, logOf}
-use Rattle.loaded_test.specs.Claim.{modeIn, voids, Clean, atStart, goesOn, PassClaim}
+use Rattle.loaded_test.specs.Claim.{modeIn, voids, Clean, atStart, goesOn, attemptIn, PassClaim}
 use Rattle.loaded_test.specs.Laws.{Bounded, voidsIn, ninesIn, VoidClaim, IncompleteClaim, FailClaim, LastTen}
-use Rattle.attempt.proofs.Tests.{nonsense, and-left}
-use Rattle.loaded_test.proofs.Holding.{mostSettling, settling-most, Told, Open, Settles, Runs, Resting, AtStage, Claims, Good, entry, Stands, Kept}
+use Rattle.attempt.proofs.Tests.{nonsense}
+use Rattle.loaded_test.proofs.Counting.{Counts, none-counted, attempt-goes, waits-on, counts-on}
+use Rattle.loaded_test.proofs.Holding.{mostSettling, settling-most, Told, Open, Settles, Runs, AtStage, Claims, Good, entry, Stands, Kept}
 use Rattle.loaded_test.proofs.Voiding.{voided-good}
 use Rattle.loaded_test.proofs.Approach.{told-on, nothing-good, rest-good, settles-good}
 use Rattle.loaded_test.proofs.Taking.{kept-turn, measures-good}
@@ -55,26 +57,35 @@ module _ (x : Test) (log : List Entry) where
   }
 
   -- A second in an attempt, from what becomes of it where the test waits and where it is counted.
-  attempt-good :
+  screen-good :
       (s : Second) (measuring : Bool) →
       Told log (x .progress .mode) (x .progress .voids) →
       Open (x .progress) →
-      (waits (x .progress .counted) s ≡ true → Good (x .vehicle) (aSecond s) log (x .last) (nothing (x .progress))) →
-      (Clean s → Kept (x .vehicle) (aSecond s) log (inAttempt Clear measuring x s)) →
-      Kept (x .vehicle) (aSecond s) log (inAttempt (screened (x .progress .counted) s) measuring x s)
-  unfolding screened inAttempt
-  attempt-good s measuring t o waiting clear =
-      let P : Screen → Type 0 = λ y. Kept (x .vehicle) (aSecond s) log (inAttempt y measuring x s) in
+      (x .progress .counted ≡ 0 → s .speed ≤ 10 → Good (x .vehicle) (aSecond s) log (x .last) (nothing (x .progress))) →
+      ((x .progress .counted ≡ 0 → 10 < s .speed) → Clean s → Kept (x .vehicle) (aSecond s) log (inAttempt Clear measuring x s)) →
+      (y : Screen) →
+      Screens (x .progress .counted) s y →
+      Kept (x .vehicle) (aSecond s) log (inAttempt y measuring x s)
+  unfolding inAttempt
+  screen-good s measuring t o waiting clear Waits q =
+      kept-turn (x .vehicle) (aSecond s) log (x .last) (x .window) _ (waiting (q .0) (q .1))
+  screen-good s measuring t o waiting clear (Flawed n) q =
       let m = settling-most (x .progress .mode) in
-      on-pick P (waits (x .progress .counted) s) _ _
-      (λ e. kept-turn (x .vehicle) (aSecond s) log (x .last) (x .window) _ (waiting e))
-      (λ _. on-pick P (s .over) _ _
-      (λ _. kept-turn (x .vehicle) (aSecond s) log (x .last) (x .window) _
-      (voided-good (x .vehicle) (aSecond s) log (x .last) 6 (counted (x .progress)) t (omega arith)))
-      (λ f. on-pick P (diluted s) _ _
-      (λ _. kept-turn (x .vehicle) (aSecond s) log (x .last) (x .window) _
-      (voided-good (x .vehicle) (aSecond s) log (x .last) 5 (counted (x .progress)) t (omega arith)))
-      (λ g. clear (record { inRange = f; undiluted = g }))))
+      kept-turn (x .vehicle) (aSecond s) log (x .last) (x .window) _
+      (voided-good (x .vehicle) (aSecond s) log (x .last) n (counted (x .progress)) t (omega arith))
+  screen-good s measuring t o waiting clear Clear q = clear (q .0) (record { inRange = q .1; undiluted = q .2 })
+
+  -- c has grown with a counted second.
+  counted-on :
+      (s : Second) →
+      x .progress .counted ≤ 144 →
+      (x .progress .counted ≡ 0 → 10 < s .speed) →
+      Clean s →
+      Counts (attemptIn log) (x .progress .counted) →
+      Counts (aSecond s ∷ attemptIn log) (counted (x .progress) .counted)
+  counted-on s most fast clean h =
+      let e : suc (x .progress .counted) ≡ counted (x .progress) .counted = omega arith in
+      subst (Counts (aSecond s ∷ attemptIn log)) e (counts-on s (attemptIn log) (x .progress .counted) fast clean most h)
 
   settling-good :
       (s : Second) →
@@ -84,12 +95,20 @@ module _ (x : Test) (log : List Entry) where
   unfolding secondAt inAttempt voids pick
   settling-good s e h =
       let o = h .bounds in
-      attempt-good s false (h .told) (h .bounds)
-      (λ _. nothing-good (x .vehicle) (aSecond s) log (x .last) (x .progress)
+      screen-good s false (h .told) (h .bounds)
+      (λ z slow. nothing-good (x .vehicle) (aSecond s) log (x .last) (x .progress)
       (subst⁻¹ (λ (y : Stage). AtStage y (x .vehicle) (entry (aSecond s) (nothing (x .progress)) ∷ log) (x .progress) (x .last)) e
-      (record { told = told-on (aSecond s) log Nothing refl (h .told); bounds = h .bounds; attempt = goesOn refl refl (h .attempt) })))
-      (λ _. kept-turn (x .vehicle) (aSecond s) log (x .last) (x .window) _
-      (settles-good (x .vehicle) (aSecond s) log (x .last) s (counted (x .progress)) e (h .told) (omega arith) (omega arith) (omega arith) (h .attempt)))
+      (record {
+        told = told-on (aSecond s) log Nothing refl (h .told);
+        bounds = h .bounds;
+        attempt = goesOn refl refl (h .attempt);
+        counting = attempt-goes (aSecond s) Nothing log _ (waits-on (aSecond s) (attemptIn log) _ z slow (h .counting));
+      })))
+      (λ fast clean. kept-turn (x .vehicle) (aSecond s) log (x .last) (x .window) _
+      (settles-good (x .vehicle) (aSecond s) log (x .last) s (counted (x .progress)) e (h .told) (omega arith) (omega arith) (omega arith) (h .attempt)
+      (counted-on s (o .counted) fast clean (h .counting))))
+      (screened (x .progress .counted) s)
+      (screened-exactly (x .progress .counted) s)
 
   measuring-good :
       (s : Second) →
@@ -100,9 +119,9 @@ module _ (x : Test) (log : List Entry) where
   measuring-good s e h =
       let o = h .bounds in
       let r = h .running .started in
-      attempt-good s true (h .told) (h .bounds)
-      (λ f. let z : x .progress .counted ≡ 0 = eqb-true _ _ (and-left (eqb (x .progress .counted) 0) (leb (s .speed) 10) f) in absurd (omega arith))
-      (λ c. measures-good x log s (counted (x .progress))
+      screen-good s true (h .told) (h .bounds)
+      (λ z slow. absurd (omega arith))
+      (λ fast c. measures-good x log s (counted (x .progress))
       (record {
         stage = e;
         told = h .told;
@@ -121,9 +140,12 @@ module _ (x : Test) (log : List Entry) where
           notYet = h .running .notYet;
         };
         unspoilt = c;
+        counting = counted-on s (o .counted) fast c (h .counting);
       })
       (measuredOf (x .vehicle) (x .progress .mode) s)
       (ap (λ mode. measuredOf (x .vehicle) mode s) (h .told .mode)))
+      (screened (x .progress .counted) s)
+      (screened-exactly (x .progress .counted) s)
 
   second-at :
       (s : Second) (st : Stage) →
@@ -132,6 +154,7 @@ module _ (x : Test) (log : List Entry) where
       Claims (x .vehicle) log →
       Kept (x .vehicle) (aSecond s) log (secondAt st x s)
   unfolding secondAt logged
+  second-at s NotBegun e h c = absurd h
   second-at s Settling e h c = settling-good s e h
   second-at s Measuring e h c = measuring-good s e h
   second-at s Rest e h c =
@@ -158,13 +181,20 @@ module _ (x : Test) (log : List Entry) where
       (n : ℕ) (st : Stage) →
       x .progress .stage ≡ st →
       AtStage st (x .vehicle) log (x .progress) (x .last) →
-      hasEnded st ≡ false →
+      isRunning st ≡ true →
       Good (x .vehicle) (aStop n) log (x .last) (stopTaken (isResting st) n (x .progress))
-  unfolding isResting hasEnded voids
+  unfolding isResting isRunning voids
+  stop-at n NotBegun e h c = absurd h
   stop-at n Settling e h c =
       stop-taken n false (h .told) (h .bounds)
-      (λ _. subst⁻¹ (λ (y : Stage). AtStage y (x .vehicle) (entry (aStop n) (nothing (x .progress)) ∷ log) (x .progress) (x .last)) e
-      (record { told = told-on (aStop n) log Nothing refl (h .told); bounds = h .bounds; attempt = goesOn refl refl (h .attempt) }))
+      (λ f. let z : x .progress .counted ≡ 0 = eqb-true _ _ f in
+      subst⁻¹ (λ (y : Stage). AtStage y (x .vehicle) (entry (aStop n) (nothing (x .progress)) ∷ log) (x .progress) (x .last)) e
+      (record {
+        told = told-on (aStop n) log Nothing refl (h .told);
+        bounds = h .bounds;
+        attempt = goesOn refl refl (h .attempt);
+        counting = attempt-goes (aStop n) Nothing log _ (waits-on (aStop n) (attemptIn log) _ z tt (h .counting));
+      }))
   stop-at n Measuring e h c =
       stop-taken n false (h .told) (h .bounds)
       (λ f. let z : x .progress .counted ≡ 0 = eqb-true _ _ f in let r = h .running .started in absurd (omega arith))
@@ -172,16 +202,16 @@ module _ (x : Test) (log : List Entry) where
       stop-taken n true (h .told) (h .bounds)
       (λ _. subst⁻¹ (λ (y : Stage). AtStage y (x .vehicle) (entry (aStop n) (nothing (x .progress)) ∷ log) (x .progress) (x .last)) e
       (record { told = told-on (aStop n) log Nothing refl (h .told); bounds = h .bounds }))
-  stop-at n (Ended w) e h c = absurd (nonsense c)
+  stop-at n (Ended w) e h c = absurd (nonsense (sym c))
 
   stop-good : (n : ℕ) → Stands (x .vehicle) log x → Kept (x .vehicle) (aStop n) log (stop x n)
   unfolding stop logged
   stop-good n h =
-      on-pick (Kept (x .vehicle) (aStop n) log) (hasEnded (x .progress .stage)) _ _
-      (λ _. h)
+      on-pick (Kept (x .vehicle) (aStop n) log) (isRunning (x .progress .stage)) _ _
       (λ e. on-pick (Kept (x .vehicle) (aStop n) log) (causeFit n) _ _
       (λ _. kept-turn (x .vehicle) (aStop n) log (x .last) (x .window) _ (stop-at n (x .progress .stage) refl (h .stage) e))
       (λ _. h))
+      (λ _. h)
 
   step-good : (i : Input) → Stands (x .vehicle) log x → Kept (x .vehicle) i log (step x i)
   unfolding second
@@ -190,13 +220,14 @@ module _ (x : Test) (log : List Entry) where
 
 -- After every list of inputs.
 pub stands : (v : Vehicle) (l : List Input) → Stands v (logOf v l) (replay v l)
-unfolding logOf replay mostSettling voidsIn ninesIn modeIn
+unfolding logOf replay mostSettling voidsIn ninesIn modeIn attemptIn
 stands v [] = record {
   vehicle = refl;
   stage = record {
     told = record { mode = refl; voids = refl; nines = refl; voidsLeft = omega arith; ninesLeft = omega arith };
     bounds = omega arith;
     attempt = atStart;
+    counting = none-counted;
   };
   claims = record { pass = tt; void = tt; incomplete = tt; fail = tt };
 }
@@ -223,6 +254,7 @@ fails-only v l = stands v l .claims .fail
 
 stage-bounded :
     (v : Vehicle) (log : List Entry) (st : Stage) (p : Progress) (last : List Measured) → AtStage st v log p last → Bounded p
+stage-bounded v log NotBegun p last h = absurd h
 stage-bounded v log Settling p last h = open-bounded p (h .bounds) (h .told .voidsLeft) (h .told .ninesLeft)
 stage-bounded v log Measuring p last h = open-bounded p (h .bounds) (h .told .voidsLeft) (h .told .ninesLeft)
 stage-bounded v log Rest p last h = open-bounded p (h .bounds) (h .told .voidsLeft) (h .told .ninesLeft)

@@ -1,15 +1,14 @@
 -- A measured second leaves all that holds of a test standing, and a pass is earned. Assumes nothing.
-use Prim.Native.Nat.{ℕ, suc, _-_, _≤_, _<_}
+use Prim.Native.Nat.{ℕ, suc, _+_, _-_, _≤_, _<_}
 use native.Mathlib.Omega.{arith}
-use mathlib.Core.Bool.{Bool, true, false, not}
+use mathlib.Core.Bool.{Bool, true, false}
 use mathlib.Core.Path.{_≡_, refl, sym, ap, _∙_, subst, subst⁻¹}
 use mathlib.Core.List.{List, [], _∷_, map}
-use mathlib.Core.Logic.{inr}
+use mathlib.Core.Logic.{_⊎_, inl, inr}
 use lib.Dec.{eqb}
 use lib.ListN.{length, take}
 use lib.Seq.{take-take}
 use borrow.Author.Tests.{eqb-false}
-use Rattle.refusal.specs.Choice.{pick}
 use Rattle.refusal.proofs.Picked.{on-pick}
 use Rattle.reading.specs.declared.Second.{Second}
 use Rattle.vehicle.specs.declared.Vehicle.{Vehicle}
@@ -28,22 +27,23 @@ use Rattle.loaded_test.specs.declared.Turn.{Turn}
 use Rattle.attempt.specs.declared.Ending.{Ending}
 use Rattle.attempt.specs.declared.Ending.the-variants.{NotYet, Passes}
 use Rattle.loaded_test.specs.declared.Test.{Test}
-use Rattle.loaded_test.specs.State.{turn, withCounted, withMeasuring, stepped, steppedWith}
-use Rattle.loaded_test.specs.Voids.{ended, voided, stepFive}
+use Rattle.loaded_test.specs.State.{turn, withCounted, withMeasuring, steppedWith}
+use Rattle.loaded_test.specs.Voids.{ended, stepFive}
 use Rattle.attempt.specs.Ending.{speedHeld}
 use Rattle.attempt.specs.Measuring.{noMeasuring, tallied, windowCounted, restarts}
 use Rattle.loaded_test.specs.Measuring.{closed, concluded, windowTaken, windowJudged, judged, measures}
 use Rattle.loaded_test.specs.Windows.{outOf, outRow, longestOut, outAll, passingIn, failingIn, speedAt, endingOf}
 use Rattle.loaded_test.specs.Log.{Entry, Input, aSecond, logged}
-use Rattle.loaded_test.specs.Claim.{modeAfter, modeIn, voids, InAttempt, goesOn, Measures, none, more, Clean, AllClean, noSecond, andClean}
+use Rattle.loaded_test.specs.Claim.{modeAfter, modeIn, voids, InAttempt, goesOn, Measures, none, more, Clean, AllClean, noSecond, andClean, attemptIn}
 use Rattle.loaded_test.specs.Laws.{Bounded}
+use Rattle.loaded_test.proofs.Counting.{Counts, attempt-goes}
 use Rattle.loaded_test.proofs.Holding.{settling-most, someValid, tallyOf, Told, Open, Running, AtStage, Good, Kept}
 use Rattle.loaded_test.proofs.Voiding.{going-ends-not, same-end, fail-pass, incomplete-pass, silent, mode-ended, voided-good, five-good}
 use Rattle.loaded_test.proofs.Approach.{told-on}
 use Rattle.attempt.proofs.Tests.{or-left, or-right}
 use Rattle.attempt.proofs.Most.{row-most, all-most}
 use Rattle.loaded_test.proofs.Tally.{pushed, tally-none, tally-more, windows-most}
-use Rattle.attempt.proofs.Ruled.{on-ending}
+use Rattle.attempt.proofs.Ruled.{on-ending, held-exactly}
 
 -- A run's seconds stand in an attempt.
 attempt-of : {l : List Second} {log : List Entry} → Measures l log → InAttempt log
@@ -54,6 +54,21 @@ attempt-of (more input did next m) = goesOn (ap voids did) next (attempt-of m)
 measured-voids-not : (t n : ℕ) → Measured t ≡ Voided n → ⊥
 measured-voids-not t n e = let z : _≡_ {A = ℕ} 0 1 = cc in omega arith
 
+-- The ending rule in numbers, at a pass.
+abbrev Ended : ℕ → List Second → Type 0
+Ended t l = (t ≡ 90) ⊎ ((25 ≤ t) × (speedAt 1 l ≤ speedAt 10 l + 8))
+
+in-numbers :
+    (t : ℕ) (l : List Second) →
+    (t ≡ 90) ⊎ ((25 ≤ t) × (speedHeld (speedAt 1 l) (speedAt 10 l) ≡ true)) →
+    Ended t l
+in-numbers t l (inl e) = inl e
+in-numbers t l (inr h) = inr (h .0, held-exactly _ _ .0 (h .1))
+
+ended-least : (t : ℕ) (l : List Second) → Ended t l → 25 ≤ t
+ended-least t l (inl e) = omega arith
+ended-least t l (inr h) = h .0
+
 -- A second that measuring takes: c has grown, and the second is neither over range nor diluted.
 pub record Takes (v : Vehicle) (log : List Entry) (s : Second) (p : Progress) (last : List window.Measured) : Type 0 where
   pub stage : p .stage ≡ Measuring
@@ -62,6 +77,7 @@ pub record Takes (v : Vehicle) (log : List Entry) (s : Second) (p : Progress) (l
   pub most : p .counted ≤ 145
   pub running : Running v log p last
   pub unspoilt : Clean s
+  pub counting : Counts (aSecond s ∷ attemptIn log) (p .counted)
 
 module _
     (v : Vehicle) (log : List Entry) (s : Second) (p : Progress) (last : List window.Measured)
@@ -134,6 +150,7 @@ module _
                       few = few;
                       notYet = (e, h .running .notYet);
                     };
+                    counting = attempt-goes (aSecond s) (Measured (suc (length (h .running .run)))) log _ (h .counting);
                   });
               claims =
                   silent v (aSecond s) log
@@ -145,13 +162,14 @@ module _
         -- A pass is earned.
         passes :
             endingOf v (modeIn log) (s ∷ h .running .run) ≡ Passes →
-            25 ≤ suc (length (h .running .run)) →
             15 ≤ passingIn v (modeIn log) (s ∷ h .running .run) →
+            Ended (suc (length (h .running .run))) (s ∷ h .running .run) →
             Good v (aSecond s) log (take 10 (measuredOf v (modeIn log) s ∷ last))
             (ended (Measured (suc (length (h .running .run)))) Pass (p .voids) (withMeasuring (tallyOf v (modeIn log) (s ∷ h .running .run)) p))
         unfolding tallyOf
-        passes e least enough =
+        passes e enough ends =
             let b = bounded in
+            let least : 25 ≤ suc (length (h .running .run)) = ended-least _ _ ends in
             let n = short in
             record {
               stage = omega arith;
@@ -167,6 +185,7 @@ module _
                       isMeasured = ap Measured et;
                       number = sym et;
                       measured = h .running .measures;
+                      unvoided = h .counting .unvoided;
                       least = omega arith;
                       most = omega arith;
                       clean = clean;
@@ -174,6 +193,7 @@ module _
                       few = few;
                       rule = e;
                       notBefore = h .running .notYet;
+                      ending = subst (λ (x : ℕ). Ended x (s ∷ h .running .run)) et ends;
                       passes = sym ep;
                       fails = sym ef;
                       enough = omega arith;
@@ -198,7 +218,7 @@ module _
             (suc (length (h .running .run)))
             (record { passing = passingIn v (modeIn log) (s ∷ h .running .run); failing = failingIn v (modeIn log) (s ∷ h .running .run) })
             (speedHeld (speedAt 1 (s ∷ h .running .run)) (speedAt 10 (s ∷ h .running .run)))
-            (λ least enough e. passes e least enough)
+            (λ enough ends e. passes e enough (in-numbers _ (s ∷ h .running .run) ends))
             (λ ninety few' enough e.
             mode-ended v (aSecond s) log _ (p .mode) (Measured (suc (length (h .running .run)))) (p .voids)
             (withMeasuring (tallyOf v (modeIn log) (s ∷ h .running .run)) p)
@@ -206,8 +226,8 @@ module _
             (let b = bounded in omega arith)
             (λ n q. absurd (measured-voids-not _ n q))
             (inr (ninety, few', enough)))
-            (λ ninety e. voided-good v (aSecond s) log _ 9 (withMeasuring (tallyOf v (modeIn log) (s ∷ h .running .run)) p) (h .told) bounded)
-            (λ ninety e.
+            (λ ninety few' less e. voided-good v (aSecond s) log _ 9 (withMeasuring (tallyOf v (modeIn log) (s ∷ h .running .run)) p) (h .told) bounded)
+            (λ ninety early e.
             five-good v (aSecond s) log _ (Measured (suc (length (h .running .run))))
             (withMeasuring (tallyOf v (modeIn log) (s ∷ h .running .run)) p)
             (h .told)
@@ -242,6 +262,7 @@ module _
                   few = omega arith;
                   notYet = tt;
                 };
+                counting = attempt-goes (aSecond s) Restarted log _ (h .counting);
               });
           claims = silent v (aSecond s) log (turn Restarted GoesOn (withMeasuring noMeasuring p)) refl going-ends-not;
         }

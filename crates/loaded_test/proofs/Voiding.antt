@@ -8,7 +8,6 @@ use mathlib.Core.Logic.{_⊎_, inl}
 use lib.Dec.{eqb}
 use lib.ListN.{length}
 use borrow.Author.Tests.{eqb-true, eqb-false}
-use Rattle.refusal.specs.Choice.{pick}
 use Rattle.refusal.proofs.Picked.{on-pick}
 use Rattle.vehicle.specs.declared.Vehicle.{Vehicle}
 use Rattle.vehicle.specs.declared.Mode.{Mode}
@@ -19,7 +18,7 @@ use Rattle.loaded_test.specs.declared.Verdict.{Verdict}
 use Rattle.loaded_test.specs.declared.Did.{Did}
 use Rattle.loaded_test.specs.declared.Did.the-variants.{Voided}
 use Rattle.loaded_test.specs.declared.Next.the-variants.{GoesOn, Rests, ModeTwo, Ends}
-use Rattle.loaded_test.specs.declared.Stage.the-variants.{Settling, Rest}
+use Rattle.loaded_test.specs.declared.Stage.the-variants.{Rest}
 use Rattle.loaded_test.specs.declared.VoidCounts.{VoidCounts}
 use Rattle.loaded_test.specs.declared.Progress.{Progress}
 use Rattle.loaded_test.specs.declared.Turn.{Turn}
@@ -30,6 +29,7 @@ use Rattle.loaded_test.specs.Log.{Entry, Input}
 use Rattle.loaded_test.specs.Claim.{modeAfter, modeIn, begins, voids, begun}
 use Rattle.loaded_test.specs.Laws.{Bounded, voidAdded, voidsKept, voidsIn, ninesIn, ModeOver}
 use Rattle.attempt.proofs.Tests.{nonsense}
+use Rattle.loaded_test.proofs.Counting.{attempt-begins}
 use Rattle.loaded_test.proofs.Holding.{mostSettling, Told, Claims, Good, entry}
 
 pub going-ends-not : (y : Verdict) → GoesOn ≡ Ends y → ⊥
@@ -107,6 +107,7 @@ module _ (v : Vehicle) (i : Input) (log : List Entry) where
         told = record { mode = refl; voids = refl; nines = refl; voidsLeft = omega arith; ninesLeft = omega arith };
         bounds = omega arith;
         attempt = begun refl;
+        counting = attempt-begins _ _ refl;
       };
       claims = record {
         pass = λ t passing failing e. absurd (two-ends-not _ e);

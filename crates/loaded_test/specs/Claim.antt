@@ -1,8 +1,9 @@
 -- The pass claim on one test: what stands in its log wherever it tells a pass. It speaks of the log and of the seconds in it; no state occurs here.
-use Prim.Native.Nat.{ℕ, suc, _≤_, _<_}
+use Prim.Native.Nat.{ℕ, suc, _+_, _≤_, _<_}
 use mathlib.Core.Bool.{Bool, true, false}
 use mathlib.Core.Path.{_≡_}
-use mathlib.Core.List.{List, [], _∷_}
+use mathlib.Core.List.{List, [], _∷_, _++_, map}
+use mathlib.Core.Logic.{_⊎_}
 use lib.ListN.{length}
 use Rattle.reading.specs.declared.Second.{Second}
 use Rattle.vehicle.specs.declared.Vehicle.{Vehicle}
@@ -14,9 +15,10 @@ use Rattle.loaded_test.specs.declared.Did.the-variants as did
 use Rattle.loaded_test.specs.declared.Next.{Next}
 use Rattle.loaded_test.specs.declared.Next.the-variants.{GoesOn, Rests, RestEnded, ModeTwo, Ends}
 use Rattle.attempt.specs.declared.Ending.the-variants.{NotYet, Passes}
-use Rattle.attempt.specs.Screening.{diluted}
-use Rattle.loaded_test.specs.Windows.{longestOut, outAll, passingIn, failingIn, endingOf}
-use Rattle.loaded_test.specs.Log.{Entry, aSecond}
+use Rattle.refusal.specs.Choice.{pick}
+use Rattle.attempt.specs.Screening.{Diluted}
+use Rattle.loaded_test.specs.Windows.{longestOut, outAll, passingIn, failingIn, speedAt, endingOf}
+use Rattle.loaded_test.specs.Log.{Entry, Input, aSecond, aStop}
 
 -- The mode is 2 exactly if mode 2 has begun.
 unfoldable pub modeAfter : Next → Mode → Mode
@@ -72,12 +74,45 @@ pub data Measures : List Second → List Entry → Type 0 where
 -- Not over range in codes 4 to 7, and not diluted.
 pub record Clean (s : Second) : Type 0 where
   pub inRange : s .over ≡ false
-  pub undiluted : diluted s ≡ false
+  pub undiluted : Diluted s → ⊥
 
 -- Each of these seconds is clean.
 pub data AllClean : List Second → Type 0 where
   noSecond : AllClean []
   andClean : {s : Second} {l : List Second} → Clean s → AllClean l → AllClean (s ∷ l)
+
+-- The inputs of an attempt, newest first: those since the newest entry with which an attempt begins, or since the test's beginning.
+unfoldable pub attemptIn : List Entry → List Input
+attemptIn [] = []
+attemptIn (e ∷ log) = pick (begins (e .next)) [] (e .input ∷ attemptIn log)
+
+-- "While c = 0, a second with speed ≤ 10 changes nothing in the test"; "at c = 0" a stop "changes only the bench clock".
+abbrev pub Waits : Input → Type 0
+Waits (aSecond s) = s .speed ≤ 10
+Waits (aStop n) = Unit {0}
+
+-- Each of these inputs leaves the test waiting.
+abbrev pub AllWait : List Input → Type 0
+AllWait [] = Unit {0}
+AllWait (i ∷ l) = Waits i × AllWait l
+
+-- The oldest of these seconds has a speed above 10.
+abbrev pub FirstAbove : List Second → Type 0
+FirstAbove [] = Unit {0}
+FirstAbove (s ∷ []) = 10 < s .speed
+FirstAbove (s ∷ r ∷ l) = FirstAbove (r ∷ l)
+
+-- An attempt that is not void, read from its inputs: from its first second with speed above 10 on there is no stop, no second over range in
+-- codes 4 to 7, no diluted one, and there are at most 145.
+pub record Unvoided (inputs : List Input) : Type 0 where
+  -- the seconds from the first with speed above 10 on, and what came before them
+  pub counted : List Second
+  pub waiting : List Input
+  pub split : inputs ≡ map aSecond counted ++ waiting
+  pub first : FirstAbove counted
+  pub waits : AllWait waiting
+  pub clean : AllClean counted
+  pub most : length counted ≤ 145
 
 -- The ending rule holds at none of the seconds before the newest.
 abbrev pub NotYetIn : Vehicle → Mode → List Second → Type 0
@@ -93,6 +128,8 @@ pub record Earned (v : Vehicle) (e : Entry) (log : List Entry) (t passing failin
   pub isMeasured : e .did ≡ did.Measured t
   pub number : t ≡ length (last ∷ before)
   pub measured : Measures before log
+  -- nothing voids the attempt from its beginning on
+  pub unvoided : Unvoided (e .input ∷ attemptIn log)
   -- 25 ≤ t ≤ 90
   pub least : 25 ≤ t
   pub most : t ≤ 90
@@ -103,6 +140,8 @@ pub record Earned (v : Vehicle) (e : Entry) (log : List Entry) (t passing failin
   -- the ending rule holds at the last and at none before
   pub rule : endingOf v (modeIn log) (last ∷ before) ≡ Passes
   pub notBefore : NotYetIn v (modeIn log) before
+  -- the rule in numbers: t = 90, or 25 ≤ t and second 10's speed at most 8 below second 1's
+  pub ending : (t ≡ 90) ⊎ ((25 ≤ t) × (speedAt 1 (last ∷ before) ≤ speedAt 10 (last ∷ before) + 8))
   -- passing and failing are the valid windows counted from the seconds' own units
   pub passes : passing ≡ passingIn v (modeIn log) (last ∷ before)
   pub fails : failing ≡ failingIn v (modeIn log) (last ∷ before)

@@ -11,14 +11,13 @@ use Rattle.vehicle.specs.Driving.{blankVehicle}
 use Rattle.window.specs.declared.Measured.{Measured}
 use Rattle.window.specs.Measuring.{blankMeasured}
 use Rattle.loaded_test.specs.declared.Word.{Word}
-use Rattle.loaded_test.specs.declared.Word.the-variants.{Incomplete}
 use Rattle.loaded_test.specs.declared.Verdict.{Verdict}
 use Rattle.loaded_test.specs.declared.Did.{Did}
 use Rattle.loaded_test.specs.declared.Did.the-variants.{Nothing}
 use Rattle.loaded_test.specs.declared.Next.{Next}
 use Rattle.loaded_test.specs.declared.Next.the-variants.{GoesOn}
 use Rattle.loaded_test.specs.declared.Stage.{Stage}
-use Rattle.loaded_test.specs.declared.Stage.the-variants.{Settling, Ended}
+use Rattle.loaded_test.specs.declared.Stage.the-variants.{NotBegun, Settling, Ended}
 use Rattle.loaded_test.specs.declared.Answer.the-variants.{Told, Refused}
 use Rattle.attempt.specs.declared.SettlingCounts.{SettlingCounts}
 use Rattle.attempt.specs.declared.MeasuringCounts.{MeasuringCounts}
@@ -151,9 +150,9 @@ testOf v p = record {
 abbrev pub began : Vehicle → Test
 began v = testOf v (emptied One Settling noVoids)
 
--- What stands where there is no test: one that takes no second and no stop.
+-- What stands where there is no test: one that has not begun. It takes no second and no stop, and has no word.
 abbrev pub noneRunning : Test
-noneRunning = testOf blankVehicle (emptied One (Ended Incomplete) noVoids)
+noneRunning = testOf blankVehicle (emptied One NotBegun noVoids)
 
 -- "windows empty": the last valid window is read only where there is one; else it has ten blank seconds.
 unfoldable pub lastWindow : Test → List Measured

@@ -12,7 +12,7 @@ use Rattle.vehicle.specs.Checked.{checkedOf}
 use Rattle.window.specs.declared.Measured.{Measured}
 use Rattle.window.specs.Measuring.{measuredOf}
 use Rattle.loaded_test.specs.declared.Stage.{Stage}
-use Rattle.loaded_test.specs.declared.Stage.the-variants.{Settling, Measuring, Rest, Ended}
+use Rattle.loaded_test.specs.declared.Stage.the-variants.{NotBegun, Settling, Measuring, Rest, Ended}
 use Rattle.attempt.specs.declared.Screen.{Screen}
 use Rattle.attempt.specs.declared.Screen.the-variants.{Waits, Flawed, Clear}
 use Rattle.loaded_test.specs.declared.Progress.{Progress}
@@ -24,7 +24,7 @@ use Rattle.loaded_test.specs.declared.Start.the-variants as start
 use Rattle.loaded_test.specs.declared.Begun.{Begun}
 use Rattle.loaded_test.specs.State.{withCounted, nothing, stepped, refused, began, noneRunning}
 use Rattle.attempt.specs.Counting.{bump}
-use Rattle.loaded_test.specs.Going.{hasEnded}
+use Rattle.loaded_test.specs.Going.{isRunning}
 use Rattle.loaded_test.specs.Voids.{voided}
 use Rattle.loaded_test.specs.Rest.{restCount, rested}
 use Rattle.attempt.specs.Screening.{screened}
@@ -53,8 +53,9 @@ inAttempt Clear measuring x s =
     (measured x s (counted (x .progress)))
     (stepped x (settles (x .vehicle) s (counted (x .progress))))
 
--- What a second comes to at each stage. "second or stop, no test": an ended test refuses it.
+-- What a second comes to at each stage. "second or stop, no test": refused where no test has begun and where it has ended.
 unfoldable pub secondAt : Stage → Test → Second → Stepped
+secondAt NotBegun x s = refused noTest x
 secondAt Settling x s = inAttempt (screened (x .progress .counted) s) false x s
 secondAt Measuring x s = inAttempt (screened (x .progress .counted) s) true x s
 secondAt Rest x s = stepped x (rested (restCount (x .progress .resting) s) (x .progress))
@@ -66,6 +67,7 @@ second x s = secondAt (x .progress .stage) x s
 
 -- The stage "measuring".
 unfoldable pub isMeasuring : Stage → Bool
+isMeasuring NotBegun = false
 isMeasuring Settling = false
 isMeasuring Measuring = true
 isMeasuring Rest = false
@@ -73,6 +75,7 @@ isMeasuring (Ended w) = false
 
 -- The stage "rest".
 unfoldable pub isResting : Stage → Bool
+isResting NotBegun = false
 isResting Settling = false
 isResting Measuring = false
 isResting Rest = true
@@ -89,9 +92,9 @@ stopTaken resting n p = pick (resting || eqb (p .counted) 0) (nothing p) (voided
 -- A stop: "second or stop, no test", then "stop cause", else it is taken.
 unfoldable pub stop : Test → ℕ → Stepped
 stop x n =
-    pick (hasEnded (x .progress .stage))
-    (refused noTest x)
+    pick (isRunning (x .progress .stage))
     (pick (causeFit n) (stepped x (stopTaken (isResting (x .progress .stage)) n (x .progress))) (refused causeUnfit x))
+    (refused noTest x)
 
 -- The answer to a start, with its test.
 abbrev pub startOf : Start → Test → Begun

@@ -18,6 +18,8 @@ pub use printed::averages_of;
 pub use printed::failing_of;
 pub use printed::has_ended;
 pub use printed::has_window;
+pub use printed::is_automatic;
+pub use printed::is_running;
 pub use printed::mode_of;
 pub use printed::passing_of;
 pub use printed::progress_of;
@@ -69,7 +71,9 @@ pub enum Answer {
     Refused(Refusal),
 }
 
+// NotBegun stands where there is no test.
 pub enum Stage {
+    NotBegun,
     Settling,
     Measuring,
     Rest,
@@ -151,13 +155,13 @@ fn test_of(v: Vehicle, p: Progress) -> Test
 }
 
 // No test: a second or a stop is refused 13.
-// Ruled out: a test that takes a second, and one that has a valid window.
+// Ruled out: a test that takes a second, and one that shows the word incomplete.
 pub fn none_running() -> Test
     ensures { λ r. ⌜ r ≡ noneRunning ⌝ }
 {
     test_of(
         vehicle::blank(),
-        voids::emptied(Mode::One, Stage::Ended(Word::Incomplete), voids::NO_VOIDS),
+        voids::emptied(Mode::One, Stage::NotBegun, voids::NO_VOIDS),
     )
 }
 
@@ -188,14 +192,14 @@ pub fn begin(settings: Settings, saturation: u16) -> Begun
     }
 }
 
-// A second. On an ended test it is refused 13.
+// A second. Where no test runs it is refused 13.
 // Ruled out: a step that returns the test as it was, and a pass at t = 24.
 pub fn second(test: Test, s: Second) -> Stepped
     ensures { λ r. ⌜ r ≡ second test s ⌝ }
 {
     let p = test.progress;
     let stage = p.stage;
-    if steps::has_ended(stage) {
+    if !steps::is_running(stage) {
         return steps::refused(NO_TEST, test);
     }
     if steps::is_resting(stage) {
@@ -212,14 +216,14 @@ pub fn second(test: Test, s: Second) -> Stepped
     )
 }
 
-// A stop. On an ended test it is refused 13, of another cause than 1 to 4 refused 15.
+// A stop. Where no test runs it is refused 13, of another cause than 1 to 4 refused 15.
 // Ruled out: a stop in rest that counts as a void, and cause 9 taken for void 9.
 pub fn stop(test: Test, cause: u8) -> Stepped
     ensures { λ r. ⌜ r ≡ stop test cause ⌝ }
 {
     let p = test.progress;
     let stage = p.stage;
-    if steps::has_ended(stage) {
+    if !steps::is_running(stage) {
         return steps::refused(NO_TEST, test);
     }
     if steps::cause_fit(cause) {

@@ -1,7 +1,7 @@
 // What is printed of a test: of the attempt that runs, or that the verdict ended.
 ghost use mathlib.Core.Path.{_≡_};
 ghost use Rattle.window.specs.Judging.{averagesOf};
-ghost use Rattle.loaded_test.specs.Going.{hasEnded};
+ghost use Rattle.loaded_test.specs.Going.{isRunning, hasEnded};
 ghost use Rattle.loaded_test.specs.State.{lastWindow};
 use crate::Progress;
 use crate::Stage;
@@ -25,6 +25,25 @@ pub fn stage_of(x: Test) -> Stage
 {
     let p = x.progress;
     p.stage
+}
+
+// Whether the test runs: it has begun, and has no verdict.
+// Ruled out: a test in rest taken for none, and one that goes on after its verdict.
+pub fn is_running(x: Test) -> bool
+    ensures { λ r. ⌜ r ≡ isRunning (x .progress .stage) ⌝ }
+{
+    let p = x.progress;
+    let stage = p.stage;
+    crate::steps::is_running(stage)
+}
+
+// Whether the test's vehicle has an automatic gearbox.
+// Ruled out: a manual gearbox for every test, and that of another vehicle.
+pub fn is_automatic(x: Test) -> bool
+    ensures { λ r. ⌜ r ≡ x .vehicle .automatic ⌝ }
+{
+    let v = x.vehicle;
+    vehicle::automatic(v)
 }
 
 // Whether the test has its verdict.

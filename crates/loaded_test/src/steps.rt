@@ -2,7 +2,7 @@
 ghost use mathlib.Core.Path.{_≡_};
 ghost use Rattle.attempt.specs.declared.Screen.the-variants.{Clear};
 ghost use Rattle.loaded_test.specs.State.{refused};
-ghost use Rattle.loaded_test.specs.Going.{hasEnded};
+ghost use Rattle.loaded_test.specs.Going.{isRunning, hasEnded};
 ghost use Rattle.loaded_test.specs.Steps.{
   counted,
   inAttempt,
@@ -28,7 +28,6 @@ use attempt::bump;
 use attempt::tallied;
 use reading::Second;
 use refusal::Refusal;
-use vehicle::Vehicle;
 
 fn counted(p: Progress) -> Progress
     ensures { λ r. ⌜ r ≡ counted p ⌝ }
@@ -82,10 +81,23 @@ pub(crate) fn refused(r: Refusal, x: Test) -> Stepped
     }
 }
 
+pub(crate) fn is_running(stage: Stage) -> bool
+    ensures { λ r. ⌜ r ≡ isRunning stage ⌝ }
+{
+    match stage {
+        Stage::NotBegun => false,
+        Stage::Settling => true,
+        Stage::Measuring => true,
+        Stage::Rest => true,
+        Stage::Ended(_) => false,
+    }
+}
+
 pub(crate) fn has_ended(stage: Stage) -> bool
     ensures { λ r. ⌜ r ≡ hasEnded stage ⌝ }
 {
     match stage {
+        Stage::NotBegun => false,
         Stage::Settling => false,
         Stage::Measuring => false,
         Stage::Rest => false,
@@ -97,6 +109,7 @@ pub(crate) fn is_resting(stage: Stage) -> bool
     ensures { λ r. ⌜ r ≡ isResting stage ⌝ }
 {
     match stage {
+        Stage::NotBegun => false,
         Stage::Settling => false,
         Stage::Measuring => false,
         Stage::Rest => true,
@@ -108,6 +121,7 @@ pub(crate) fn is_measuring(stage: Stage) -> bool
     ensures { λ r. ⌜ r ≡ isMeasuring stage ⌝ }
 {
     match stage {
+        Stage::NotBegun => false,
         Stage::Settling => false,
         Stage::Measuring => true,
         Stage::Rest => false,

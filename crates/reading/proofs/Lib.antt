@@ -2,3 +2,4 @@ pub mod Bounds
 pub mod Exact
 pub mod Fields
 pub mod Halves
+pub mod Least

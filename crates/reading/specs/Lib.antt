@@ -2,3 +2,5 @@ pub mod Channel
 pub mod Rounding
 pub mod Kind
 pub mod Units
+pub mod Fitness
+pub mod Claims

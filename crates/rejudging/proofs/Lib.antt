@@ -1,5 +1,4 @@
 pub mod Cells
-pub mod Unfit
 pub mod Order
 pub mod Numerals
 pub mod Spelling
@@ -7,3 +6,6 @@ pub mod Pieces
 pub mod Turns
 pub mod WasRead
 pub mod Begun
+pub mod FirstBytes
+pub mod Lengths
+pub mod Claimed

@@ -17,7 +17,6 @@ ghost use Rattle.rejudging.specs.Line.{
   averagesText,
   windowText,
   sheetText,
-  refusedText,
   refusalText,
   lineOf,
 };

@@ -1,5 +1,4 @@
 // DCF, k_H, the limits and loads of a vehicle, and the judgement of ten seconds.
-use correction::Factor;
 use reading::Converted;
 use reading::Hundredths;
 use reading::Reading;

@@ -7,7 +7,7 @@ mod readings;
 mod tests;
 
 fn main() {
-    let mut running = tests::nothing();
+    let mut running = loaded_test::none_running();
     let mut turns: u32 = 0;
     while turns < 1000000 {
         turns = turns + 1;

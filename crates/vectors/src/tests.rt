@@ -12,32 +12,18 @@ use reading::Converted;
 use refusal::Refusal;
 use vehicle::Mode;
 
-// The running test and its gearbox.
-pub(crate) struct Running {
-    test: Test,
-    automatic: bool,
-}
-
-pub(crate) fn nothing() -> Running {
-    Running {
-        test: loaded_test::none_running(),
-        automatic: false,
-    }
-}
-
-pub(crate) fn item(r: Running) -> Running {
+pub(crate) fn item(x: Test) -> Test {
     let kind = crate::input::byte();
     if kind == 9 {
-        return begun(r);
+        return begun(x);
     }
     if kind == 10 {
-        return second(r);
+        return second(x);
     }
-    let x = r.test;
-    told(loaded_test::stop(x, crate::input::byte()), r.automatic)
+    told(loaded_test::stop(x, crate::input::byte()))
 }
 
-fn begun(r: Running) -> Running {
+fn begun(x: Test) -> Test {
     let s = crate::corrections::settings();
     let p = crate::input::short();
     let b = loaded_test::begin(s, p);
@@ -45,40 +31,38 @@ fn begun(r: Running) -> Running {
     match answer {
         Start::Begins => {
             crate::output::text(b"begun\n");
-            let test = b.test;
-            Running {
-                test,
-                automatic: s.gearbox == 2,
-            }
+            b.test
         }
         Start::Refused(q) => {
             crate::output::refused(q);
-            r
+            x
         }
     }
 }
 
-fn second(r: Running) -> Running {
+// 13 comes before 8.
+fn second(x: Test) -> Test {
     let eight = crate::readings::eight();
-    let x = r.test;
-    if loaded_test::has_ended(x) {
-        crate::output::refused(Refusal {
-            number: 13,
-            place: 0,
-        });
-        return r;
-    }
-    let found = reading::second_of(eight, r.automatic);
+    let found = reading::second_of(eight, loaded_test::is_automatic(x));
     match found {
-        Converted::Fit(s) => told(loaded_test::second(x, s), r.automatic),
-        Converted::Refused(q) => {
-            crate::output::refused(q);
-            r
-        }
+        Converted::Fit(s) => told(loaded_test::second(x, s)),
+        Converted::Refused(q) => unfit(x, q),
     }
 }
 
-fn told(y: Stepped, automatic: bool) -> Running {
+fn unfit(x: Test, q: Refusal) -> Test {
+    if loaded_test::is_running(x) {
+        crate::output::refused(q);
+        return x;
+    }
+    crate::output::refused(Refusal {
+        number: refusal::NO_TEST,
+        place: 0,
+    });
+    x
+}
+
+fn told(y: Stepped) -> Test {
     let answer = y.answer;
     let test = y.test;
     match answer {
@@ -89,7 +73,7 @@ fn told(y: Stepped, automatic: bool) -> Running {
         }
         Answer::Refused(q) => crate::output::refused(q),
     }
-    Running { test, automatic }
+    test
 }
 
 fn did_word(did: Did) {
@@ -135,45 +119,33 @@ fn mode_word(mode: Mode) {
     }
 }
 
-// Counts that a stage does not use print as 0.
-fn state(p: Progress) {
-    let mode = p.mode;
-    mode_word(mode);
-    let stage = p.stage;
+fn stage_word(stage: Stage) {
     match stage {
-        Stage::Settling => {
-            crate::output::text(b" stage settling");
-            counts(
-                p,
-                p.counted,
-                p.settling.seconds,
-                p.settling.ready,
-                p.settling.row,
-                p.settling.all,
-            );
-        }
-        Stage::Measuring => {
-            crate::output::text(b" stage measuring");
-            counts(p, p.counted, 0, 0, p.measuring.row, p.measuring.all);
-        }
-        Stage::Rest => {
-            crate::output::text(b" stage rest");
-            counts(p, p.counted, 0, 0, p.measuring.row, p.measuring.all);
-        }
-        Stage::Ended(_) => {
-            crate::output::text(b" stage ended");
-            counts(p, 0, 0, 0, 0, 0);
-        }
+        Stage::NotBegun => crate::output::text(b" stage none"),
+        Stage::Settling => crate::output::text(b" stage settling"),
+        Stage::Measuring => crate::output::text(b" stage measuring"),
+        Stage::Rest => crate::output::text(b" stage rest"),
+        Stage::Ended(_) => crate::output::text(b" stage ended"),
     }
 }
 
-fn counts(p: Progress, c: u8, n: u8, g: u8, u: u8, w: u8) {
-    count(b" c ", c);
-    count(b" n ", n);
-    count(b" g ", g);
+// Settling and measuring have a u and a w each; those of the one that does not run are 0.
+fn count_of_both(name: &[u8], settling: u8, measuring: u8) {
+    crate::output::text(name);
+    crate::output::number((settling as u64) + (measuring as u64));
+}
+
+fn state(p: Progress) {
+    let mode = p.mode;
+    let stage = p.stage;
+    mode_word(mode);
+    stage_word(stage);
+    count(b" c ", p.counted);
+    count(b" n ", p.settling.seconds);
+    count(b" g ", p.settling.ready);
     count(b" t ", p.measuring.seconds);
-    count(b" u ", u);
-    count(b" w ", w);
+    count_of_both(b" u ", p.settling.row, p.measuring.row);
+    count_of_both(b" w ", p.settling.all, p.measuring.all);
     count(b" passing ", p.measuring.windows.passing);
     count(b" failing ", p.measuring.windows.failing);
     count(b" rest ", p.resting);

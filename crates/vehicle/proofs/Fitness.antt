@@ -8,12 +8,12 @@ use native.Mathlib.Omega.{arith}
 use lib.Dec.{leb, eqb}
 use lib.ListN.{getD}
 use borrow.Author.Tests.{eq-eqb}
-use Rattle.refusal.specs.Choice.{pick}
+use Rattle.refusal.specs.Choice.{pick, firstUnfit}
 use Rattle.refusal.specs.Table.{saturationUnfit}
 use Rattle.correction.specs.Humidity.{humidityFit, pressureFit, saturationFit, kH, humidityFactor}
 use Rattle.correction.specs.declared.Factor.the-variants.{Millionths, Unfit}
 use Rattle.correction.proofs.Ranges.{both-true}
-use Rattle.vehicle.specs.Settings.{settingFit, settingsFit, firstUnfit, unfitPlace, rangeAt, ranges}
+use Rattle.vehicle.specs.Settings.{settingFit, settingsFit, unfitPlace, rangeAt, ranges}
 use Rattle.vehicle.specs.Limits.{limitsFor}
 use Rattle.vehicle.specs.Loads.{aimFor}
 use Rattle.vehicle.specs.Checked.{vehicleOf, checkedOf}

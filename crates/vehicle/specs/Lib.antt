@@ -3,3 +3,4 @@ pub mod Limits
 pub mod Loads
 pub mod Checked
 pub mod Driving
+pub mod Claims

@@ -1,10 +1,10 @@
 -- The seven settings of a start or a record and their ranges (document 01, "Test record").
-use Prim.Native.Nat.{ℕ, _+_}
-use mathlib.Core.Bool.{Bool, true, false, _&&_}
+use Prim.Native.Nat.{ℕ}
+use mathlib.Core.Bool.{Bool, _&&_}
 use mathlib.Core.List.{List, [], _∷_}
 use lib.Dec.{leb, eqb}
 use lib.ListN.{getD}
-use Rattle.refusal.specs.Choice.{pick}
+use Rattle.refusal.specs.Choice.{pick, firstUnfit}
 use Rattle.vehicle.specs.declared.Range.{Range}
 use Rattle.vehicle.specs.declared.Settings.{Settings}
 
@@ -49,12 +49,6 @@ settingsFit s =
     ∷ settingFit 6 (s .kind) (s .temperature)
     ∷ settingFit 7 (s .kind) (s .pressure)
     ∷ []
-
--- The place of the first that is unfit, counted from n; 0 where all are fit.
-unfoldable pub firstUnfit : ℕ → List Bool → ℕ
-firstUnfit n [] = 0
-firstUnfit n (true ∷ l) = firstUnfit (n + 1) l
-firstUnfit n (false ∷ l) = n
 
 -- The place, 1 to 7, of the first unfit setting; 0 where all are fit.
 unfoldable pub unfitPlace : Settings → ℕ

@@ -3,7 +3,7 @@
 
 ghost use mathlib.Core.Path.{_≡_};
 ghost use Prim.Native.Nat.{_≤_, _<_};
-ghost use Rattle.vehicle.specs.Settings.{settingFit, unfitPlace};
+ghost use Rattle.vehicle.specs.Settings.{settingFit, unfitPlace, automatic};
 ghost use Rattle.vehicle.specs.Limits.{limitRow, limitsFor};
 ghost use Rattle.vehicle.specs.Loads.{rowUpTo, displacementBounds, loadFor, targetFor, aimFor};
 ghost use Rattle.vehicle.specs.Checked.{checkedOf};
@@ -17,6 +17,7 @@ ghost use Rattle.vehicle.specs.Driving.{
   inTolerance,
   engineGood,
 };
+ghost use Rattle.vehicle.specs.Claims.{CheckedFit};
 use correction::Factor;
 use reading::Second;
 use refusal::Refusal;
@@ -56,7 +57,7 @@ pub struct Vehicle {
     limits: Limits,
     first: Aim,
     second: Aim,
-    // k_H in millionths, and what it was worked out from: document 01's r, B and p.
+    // k_H in millionths, and what it was worked out from, document 01's r, B and p: the float averages work the unrounded k out from them.
     k: u32,
     humidity: u16,
     pressure: u16,
@@ -230,21 +231,22 @@ fn aim_for(kind: u16, displacement: u16, mode: Mode) -> Aim
 }
 
 // The settings checked in order, then p: refusal 4 with the place of the first unfit setting, or 5 with place 0.
+// With it comes the claim about every vehicle that the check gives.
 // Ruled out: 5 given while a setting is unfit, and limits of 2001 given to a vehicle of 2000.
 pub fn checked_of(s: Settings, saturation: u16) -> Checked
-    ensures { λ r. ⌜ r ≡ checkedOf s saturation ⌝ }
+    ensures { λ r. ⌜ (r ≡ checkedOf s saturation) × CheckedFit ⌝ }
 {
     let place = unfit_place(s);
     if place != 0 {
         return Checked::Refused(Refusal {
-            number: 4,
+            number: refusal::SETTING_UNFIT,
             place: place as usize,
         });
     }
     let Factor::Millionths(k) = correction::humidity_factor(s.humidity, s.pressure, saturation)
     else {
         return Checked::Refused(Refusal {
-            number: 5,
+            number: refusal::SATURATION_UNFIT,
             place: 0,
         });
     };
@@ -258,6 +260,14 @@ pub fn checked_of(s: Settings, saturation: u16) -> Checked
         pressure: s.pressure,
         saturation,
     })
+}
+
+// Whether settings name an automatic gearbox.
+// Ruled out: gearbox 1 taken for automatic, and any other than 1.
+pub fn is_automatic(s: Settings) -> bool
+    ensures { λ r. ⌜ r ≡ automatic s ⌝ }
+{
+    s.gearbox == AUTOMATIC
 }
 
 // Whether the gearbox is automatic.
@@ -284,7 +294,9 @@ pub fn limits_of(v: Vehicle) -> Limits
     v.limits
 }
 
-fn aim_of(v: Vehicle, mode: Mode) -> Aim
+// What a mode asks of the vehicle.
+// Ruled out: mode 2's target in mode 1, and the load of one mode with the target of the other.
+pub fn aim_of(v: Vehicle, mode: Mode) -> Aim
     ensures { λ r. ⌜ r ≡ aimOf v mode ⌝ }
 {
     match mode {

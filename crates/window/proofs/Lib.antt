@@ -1,3 +1,4 @@
 pub mod Seconds
 pub mod Capped
 pub mod Bounded
+pub mod Plainly

@@ -1,2 +1,16 @@
-// Document 01, "Worked by hand": the starred cases, one table in specs/Cases.antt and one theorem in proofs/Computed.antt.
-// No function: the cases are computed from the definitions that the other crates' contracts cite.
+// Document 01, "Worked by hand", computed from the definitions that the other crates' contracts cite. Nothing is computed when the program
+// runs: each function's contract is a claim, so that the claim cannot go without its proof.
+ghost use Rattle.worked.specs.Cases.{Worked};
+ghost use Rattle.worked.specs.Runs.{Played};
+
+// The starred cases, one table.
+// Ruled out: 101 units for CO bits 0x3F80A3D7, and lock 5 at the third wrong try.
+pub fn starred_cases()
+    ensures { λ r. ⌜ Worked ⌝ }
+{}
+
+// Runs of events from a fresh bench with what the bench and the plain history answer to each.
+// Ruled out: a bench on which no start is admitted, and one that tells no verdict but a pass.
+pub fn played_runs()
+    ensures { λ r. ⌜ Played ⌝ }
+{}

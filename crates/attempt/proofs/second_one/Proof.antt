@@ -2,6 +2,7 @@
 use Rattle.attempt.specs.Settling.{secondOne}
 use mathlib.Core.Path.{_∙_}
 use borrow.Author.Needs.{needs}
+use Rattle.attempt.proofs.Most.{first-most}
 use Rattle.attempt.proofs.second_one.Statement.{statement}
 use Rattle.attempt.proofs.second_one.Tie as tie
 
@@ -25,7 +26,7 @@ settled-one-requires c κs = search needs
 
 returns : tie.Need-returns
 unfolding secondOne
-returns c = c .settled-one .ensures ∙ simp (c .before .ready-counted .ensures, c .before .before .ready .ensures, c .before .before .before .within .ensures, c .before .before .before .before .target .ensures, c .before .before .before .before .before .speed .ensures)
+returns c = (c .settled-one .ensures ∙ simp (c .before .ready-counted .ensures, c .before .before .ready .ensures, c .before .before .before .within .ensures, c .before .before .before .before .target .ensures, c .before .before .before .before .before .speed .ensures), first-most)
 
 pub second-one-spec : {M : Type 1} → statement M
 second-one-spec =

@@ -2,6 +2,7 @@
 use Rattle.attempt.specs.Settling.{secondTwo}
 use mathlib.Core.Path.{_∙_}
 use borrow.Author.Needs.{needs}
+use Rattle.attempt.proofs.Most.{next-most}
 use Rattle.attempt.proofs.second_two.Statement.{statement}
 use Rattle.attempt.proofs.second_two.Tie as tie
 
@@ -25,7 +26,7 @@ settled-two-requires c κs = search needs
 
 returns : tie.Need-returns
 unfolding secondTwo
-returns c = c .settled-two .ensures ∙ simp (c .before .ready-counted .ensures, c .before .before .ready .ensures, c .before .before .before .within .ensures, c .before .before .before .before .target .ensures, c .before .before .before .before .before .speed .ensures)
+returns c = (c .settled-two .ensures ∙ simp (c .before .ready-counted .ensures, c .before .before .ready .ensures, c .before .before .before .within .ensures, c .before .before .before .before .target .ensures, c .before .before .before .before .before .speed .ensures), next-most)
 
 pub second-two-spec : {M : Type 1} → statement M
 second-two-spec =

@@ -1,5 +1,5 @@
 -- `bench::open` meets its contract. Assumes nothing.
-use Rattle.bench.proofs.Demanded.{opens}
+use Rattle.bench.proofs.Lawful.{opens}
 use Rattle.bench.specs.Stepping.{openedOf}
 use Rattle.refusal.specs.Choice.{pick}
 use borrow.Author.Needs.{needs}

@@ -3,6 +3,7 @@ use native.Mathlib.Omega.{arith}
 use borrow.Author.Needs.{needs}
 use Rattle.correction.specs.Humidity.{kH}
 use Rattle.correction.proofs.Ranges.{InRange, k-within}
+use Rattle.correction.proofs.Reduced.{humidity-claims}
 use Rattle.correction.proofs.Tested.{passed, factor-none, factor-some}
 use Rattle.correction.proofs.humidity_factor.Statement.{statement}
 use Rattle.correction.proofs.humidity_factor.Tie as tie
@@ -20,7 +21,7 @@ ranges : (c : tie.Else1) → InRange (c .before .before .before .before .args .h
 ranges c = passed _ _ _ _ _ _ (c .before .before .before .humidity-fit .ensures) (c .before .before .pressure-fit .ensures) (c .before .saturation-fit .ensures) (c .if1 .left)
 
 returns : tie.Need-returns
-returns c = factor-none _ _ _ _ _ _ (c .before .before .before .humidity-fit .ensures) (c .before .before .pressure-fit .ensures) (c .before .saturation-fit .ensures) (c .if1 .taken)
+returns c = (factor-none _ _ _ _ _ _ (c .before .before .before .humidity-fit .ensures) (c .before .before .pressure-fit .ensures) (c .before .saturation-fit .ensures) (c .if1 .taken), humidity-claims)
 
 mul-vapour : tie.Need-mul-vapour
 mul-vapour c = omega (arith, ranges c)
@@ -48,11 +49,11 @@ half-up-requires c κs = search needs
 
 cast-t17 : tie.Need-cast-t17
 unfolding kH
-cast-t17 c = omega (arith, k-within _ _ _ (ranges (c .before)), c .half-up .ensures)
+cast-t17 c = omega (arith, k-within _ _ _ (ranges (c .before)), c .half-up .ensures .0)
 
 returns-2 : tie.Need-returns-2
 unfolding kH
-returns-2 c = factor-some _ _ _ _ _ _ (c .before .before .before .before .humidity-fit .ensures) (c .before .before .before .pressure-fit .ensures) (c .before .before .saturation-fit .ensures) _ (c .before .if1 .left) (c .half-up .ensures)
+returns-2 c = (factor-some _ _ _ _ _ _ (c .before .before .before .before .humidity-fit .ensures) (c .before .before .before .pressure-fit .ensures) (c .before .before .saturation-fit .ensures) _ (c .before .if1 .left) (c .half-up .ensures .0), humidity-claims)
 
 pub humidity-factor-spec : {M : Type 1} → statement M
 humidity-factor-spec =

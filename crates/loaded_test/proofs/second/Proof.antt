@@ -1,20 +1,21 @@
 -- `second` meets its contract. Assumes nothing.
 use mathlib.Core.Path.{_∙_, sym}
-use Rattle.loaded_test.proofs.Stages.{at-end, at-rest, in-attempt}
+use Rattle.loaded_test.proofs.Stages.{at-none, at-rest, in-attempt}
 use Rattle.loaded_test.specs.Steps.{second}
 use borrow.Author.Needs.{needs}
+use borrow.Author.Tests.{not-true, not-false}
 use Rattle.loaded_test.proofs.second.Statement.{statement}
 use Rattle.loaded_test.proofs.second.Tie as tie
 
-has-ended-requires : tie.Need-has-ended-requires
-has-ended-requires c κs = search needs
+is-running-requires : tie.Need-is-running-requires
+is-running-requires c κs = search needs
 
 refused-requires : tie.Need-refused-requires
 refused-requires c κs = search needs
 
 returns : tie.Need-returns
 unfolding second
-returns c = c .refused .ensures ∙ sym (at-end _ _ _ (sym (c .before .before .has-ended .ensures) ∙ c .before .if1 .taken))
+returns c = c .refused .ensures ∙ sym (at-none _ _ _ (sym (c .before .before .is-running .ensures) ∙ not-true _ (c .before .if1 .taken)))
 
 is-resting-requires : tie.Need-is-resting-requires
 is-resting-requires c κs = search needs
@@ -43,13 +44,13 @@ in-attempt-requires c κs = search needs
 
 returns-3 : tie.Need-returns-3
 unfolding second
-returns-3 c = c .in-attempt .ensures ∙ (simp (c .before .before .screened .ensures, c .before .is-measuring .ensures)) ∙ sym (in-attempt _ _ _ (sym (c .before .before .before .before .before .before .has-ended .ensures) ∙ c .before .before .before .before .before .if1 .left) (sym (c .before .before .before .before .is-resting .ensures) ∙ c .before .before .before .if2 .left))
+returns-3 c = c .in-attempt .ensures ∙ (simp (c .before .before .screened .ensures .0, c .before .is-measuring .ensures)) ∙ sym (in-attempt _ _ _ (sym (c .before .before .before .before .before .before .is-running .ensures) ∙ not-false _ (c .before .before .before .before .before .if1 .left)) (sym (c .before .before .before .before .is-resting .ensures) ∙ c .before .before .before .if2 .left))
 
 pub second-spec : {M : Type 1} → statement M
 second-spec =
     tie.close
     (tie.spec
-    has-ended-requires
+    is-running-requires
     refused-requires
     returns
     is-resting-requires

@@ -32,10 +32,10 @@ enum-known-written : tie.Need-enum-known-written
 enum-known-written c = search needs
 
 array-share-prefix-output : tie.Need-array-share-prefix-output
-array-share-prefix-output c = omega (arith, c .before .before .before .before .line .kept .1 .0, whole-fits (c .before .before .before .before .before .before .rejudge .result) 192 _ (sym (c .before .before .before .before .line .ensures .0) ∙ c .before .written .given .1))
+array-share-prefix-output c = omega (arith, c .before .before .before .before .line .kept .1 .0, whole-fits (c .before .before .before .before .before .before .rejudge .result) 192 _ (sym (c .before .before .before .before .line .ensures .0 .0) ∙ c .before .written .given .1))
 
 slice-aggregate-write-all : tie.Need-slice-aggregate-write-all
-slice-aggregate-write-all c = sym (length-take-le _ (c .before .before .before .before .before .line .last .1 .0) (omega (arith, c .before .before .before .before .before .line .kept .1 .0, whole-fits (c .before .before .before .before .before .before .before .rejudge .result) 192 _ (sym (c .before .before .before .before .before .line .ensures .0) ∙ c .before .before .written .given .1))))
+slice-aggregate-write-all c = sym (length-take-le _ (c .before .before .before .before .before .line .last .1 .0) (omega (arith, c .before .before .before .before .before .line .kept .1 .0, whole-fits (c .before .before .before .before .before .before .before .rejudge .result) 192 _ (sym (c .before .before .before .before .before .line .ensures .0 .0) ∙ c .before .before .written .given .1))))
 
 write-all-requires : tie.Need-write-all-requires
 write-all-requires c κs = search needs

@@ -10,8 +10,8 @@ Inv-loop running₀ turns₀ running turns = turns ≤ 1000000
 abbrev μ-loop : tie.MeasureT-loop
 μ-loop running₀ turns₀ running turns = 1000000 - turns
 
-nothing-requires : tie.Need-nothing-requires Inv-loop μ-loop
-nothing-requires c κs = search needs
+none-running-requires : tie.Need-none-running-requires Inv-loop μ-loop
+none-running-requires c κs = search needs
 
 loop-holds : tie.Need-loop-holds Inv-loop μ-loop
 loop-holds c = search needs
@@ -61,7 +61,7 @@ main-spec =
     (tie.spec
     Inv-loop
     μ-loop
-    nothing-requires
+    none-running-requires
     loop-holds
     add-turns
     topic-requires

@@ -5,6 +5,7 @@ use borrow.Author.Needs.{needs}
 use Rattle.vehicle.specs.Checked.{checkedOf}
 use Rattle.refusal.specs.Choice.{pick}
 use Rattle.vehicle.proofs.Fitness.{checked-none, checked-some}
+use Rattle.vehicle.proofs.FitVehicle.{checked-fit}
 use Rattle.vehicle.proofs.checked_of.Statement.{statement}
 use Rattle.vehicle.proofs.checked_of.Tie as tie
 
@@ -16,7 +17,7 @@ cast-t6 c = search needs
 
 returns : tie.Need-returns
 unfolding checkedOf pick
-returns c = simp (← c .before .unfit-place .ensures, ne-eqb _ 0 (c .if1 .taken))
+returns c = (simp (← c .before .unfit-place .ensures, ne-eqb _ 0 (c .if1 .taken)), checked-fit)
 
 humidity-factor-requires : tie.Need-humidity-factor-requires
 humidity-factor-requires c κs = search needs
@@ -28,7 +29,7 @@ enum-told : tie.Need-enum-told
 enum-told c = search needs
 
 returns-2 : tie.Need-returns-2
-returns-2 c = checked-none _ _ (sym (c .before .before .before .before .unfit-place .ensures) ∙ c .before .before .before .if1 .left) (sym (c .before .before .humidity-factor .ensures) ∙ c .enum-told .given .1)
+returns-2 c = (checked-none _ _ (sym (c .before .before .before .before .unfit-place .ensures) ∙ c .before .before .before .if1 .left) (sym (c .before .before .humidity-factor .ensures .0) ∙ c .enum-told .given .1), checked-fit)
 
 limits-for-requires : tie.Need-limits-for-requires
 limits-for-requires c κs = search needs
@@ -40,7 +41,7 @@ aim-for-requires-2 : tie.Need-aim-for-requires-2
 aim-for-requires-2 c κs = search needs
 
 returns-3 : tie.Need-returns-3
-returns-3 c = checked-some _ _ (sym (c .before .before .before .before .before .before .before .before .before .unfit-place .ensures) ∙ c .before .before .before .before .before .before .before .before .if1 .left) _ _ _ _ (c .before .before .limits-for .ensures) (c .before .aim-for .ensures) (c .aim-for2 .ensures) (sym (c .before .before .before .before .before .before .before .humidity-factor .ensures) ∙ c .before .before .before .before .before .k .given .1)
+returns-3 c = (checked-some _ _ (sym (c .before .before .before .before .before .before .before .before .before .unfit-place .ensures) ∙ c .before .before .before .before .before .before .before .before .if1 .left) _ _ _ _ (c .before .before .limits-for .ensures) (c .before .aim-for .ensures) (c .aim-for2 .ensures) (sym (c .before .before .before .before .before .before .before .humidity-factor .ensures .0) ∙ c .before .before .before .before .before .k .given .1), checked-fit)
 
 pub checked-of-spec : {M : Type 1} → statement M
 checked-of-spec =

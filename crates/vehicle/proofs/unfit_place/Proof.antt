@@ -1,7 +1,8 @@
 -- `vehicle::unfit_place` meets its contract: each return by the settings tested before it. Assumes nothing.
 use borrow.Author.Tests.{not-true, not-false}
 use borrow.Author.Needs.{needs}
-use Rattle.vehicle.specs.Settings.{unfitPlace, firstUnfit}
+use Rattle.refusal.specs.Choice.{firstUnfit}
+use Rattle.vehicle.specs.Settings.{unfitPlace}
 use Rattle.vehicle.proofs.unfit_place.Statement.{statement}
 use Rattle.vehicle.proofs.unfit_place.Tie as tie
 

@@ -21,11 +21,11 @@ refused-requires c κs = search needs
 
 returns : tie.Need-returns
 unfolding secondTaken
-returns c = simp (← c .before .before .before .before .second-of .ensures, c .before .before .s .given .1) (c .second-fit .ensures)
+returns c = simp (← c .before .before .before .before .second-of .ensures .0, c .before .before .s .given .1) (c .second-fit .ensures)
 
 returns-2 : tie.Need-returns-2
 unfolding secondTaken
-returns-2 c = simp (← c .before .before .before .before .second-of .ensures, c .before .before .r .given .1) (c .refused .ensures)
+returns-2 c = simp (← c .before .before .before .before .second-of .ensures .0, c .before .before .r .given .1) (c .refused .ensures)
 
 pub second-taken-spec : {M : Type 1} → statement M
 second-taken-spec =

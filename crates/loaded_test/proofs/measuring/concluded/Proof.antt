@@ -16,7 +16,7 @@ closed-requires c κs = search needs
 
 returns : tie.Need-returns
 unfolding concluded
-returns c = c .closed .ensures ∙ simp (c .before .ending-rule .ensures, c .before .before .speed-held .ensures)
+returns c = c .closed .ensures ∙ simp (c .before .ending-rule .ensures .0, c .before .before .speed-held .ensures .0)
 
 pub concluded-spec : {M : Type 1} → statement M
 concluded-spec =

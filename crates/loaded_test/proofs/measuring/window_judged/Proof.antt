@@ -14,7 +14,7 @@ window-counted-requires c κs = search needs
 
 returns : tie.Need-returns
 unfolding windowJudged pick
-returns c = simp (c .before .before .if1 .taken) (c .window-counted .ensures ∙ simp (c .before .passes .ensures))
+returns c = simp (c .before .before .if1 .taken) (c .window-counted .ensures ∙ simp (c .before .passes .ensures .0))
 
 returns-2 : tie.Need-returns-2
 unfolding windowJudged pick

@@ -9,7 +9,7 @@ valid-requires c κs = search needs
 
 returns : tie.Need-returns
 unfolding windowTaken
-returns c = simp (c .valid .ensures)
+returns c = simp (c .valid .ensures .0)
 
 pub window-taken-spec : {M : Type 1} → statement M
 window-taken-spec = tie.close (tie.spec valid-requires returns)

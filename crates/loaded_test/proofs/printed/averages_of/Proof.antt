@@ -11,7 +11,7 @@ averages-of-requires : tie.Need-averages-of-requires
 averages-of-requires c κs = search needs
 
 returns : tie.Need-returns
-returns c = c .averages-of .ensures ∙ simp (c .before .last-window .ensures)
+returns c = c .averages-of .ensures .0 ∙ simp (c .before .last-window .ensures)
 
 pub averages-of-spec : {M : Type 1} → statement M
 averages-of-spec = tie.close (tie.spec last-window-requires averages-of-requires returns)

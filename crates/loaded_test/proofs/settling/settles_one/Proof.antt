@@ -13,7 +13,7 @@ closed-one-requires c κs = search needs
 
 returns : tie.Need-returns
 unfolding settlesIn
-returns c = c .closed-one .ensures ∙ simp (c .before .second-one .ensures)
+returns c = c .closed-one .ensures ∙ simp (c .before .second-one .ensures .0)
 
 pub settles-one-spec : {M : Type 1} → statement M
 settles-one-spec = tie.close (tie.spec second-one-requires closed-one-requires returns)

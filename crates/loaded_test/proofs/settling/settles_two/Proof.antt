@@ -13,7 +13,7 @@ closed-two-requires c κs = search needs
 
 returns : tie.Need-returns
 unfolding settlesIn
-returns c = c .closed-two .ensures ∙ simp (c .before .second-two .ensures)
+returns c = c .closed-two .ensures ∙ simp (c .before .second-two .ensures .0)
 
 pub settles-two-spec : {M : Type 1} → statement M
 settles-two-spec = tie.close (tie.spec second-two-requires closed-two-requires returns)

@@ -1,6 +1,6 @@
 -- Rejudging and the bench agree: the bench follows the test item by item. Assumes nothing.
 use Prim.Native.Nat.{ℕ, _≤_}
-use mathlib.Core.Bool.{Bool, true, false, true≢false}
+use mathlib.Core.Bool.{Bool, true, false, not, true≢false}
 use mathlib.Core.List.{List, [], _∷_}
 use mathlib.Core.Path.{_≡_, refl, sym, _∙_, ap, subst}
 use native.Mathlib.Omega.{arith}
@@ -16,26 +16,24 @@ use Rattle.vehicle.specs.declared.Settings.{Settings}
 use Rattle.record.specs.Reading.{readRecord, stopCauseIn}
 use Rattle.record.specs.declared.Read.the-variants as read
 use Rattle.record.specs.declared.Shape.{Shape}
-use Rattle.loaded_test.specs.Going.{hasEnded, endsIn, Goes}
+use Rattle.loaded_test.specs.Going.{isRunning, hasEnded, endsIn, Goes}
 use Rattle.loaded_test.specs.State.{verdictOf}
 use Rattle.loaded_test.specs.Steps.{begin, begunBy, second, stop}
 use Rattle.loaded_test.specs.declared.Next.{Next}
 use Rattle.loaded_test.specs.declared.Next.the-variants.{GoesOn, Rests, RestEnded, ModeTwo, Ends}
 use Rattle.loaded_test.specs.declared.Stage.{Stage}
-use Rattle.loaded_test.specs.declared.Stage.the-variants.{Settling, Measuring, Rest, Ended}
+use Rattle.loaded_test.specs.declared.Stage.the-variants.{NotBegun, Settling, Measuring, Rest, Ended}
 use Rattle.loaded_test.specs.declared.Start.the-variants as test-start
 use Rattle.loaded_test.specs.declared.Stepped.{Stepped}
 use Rattle.loaded_test.specs.declared.Test.{Test}
 use Rattle.loaded_test.specs.declared.Verdict.{Verdict}
 use Rattle.loaded_test.specs.declared.Word.{Word}
 use Rattle.loaded_test.specs.declared.Word.the-variants as word
-use Rattle.loaded_test.proofs.Going.{second-goes, stop-goes}
+use Rattle.loaded_test.proofs.Going.{second-goes, stop-goes, running-open}
 use Rattle.locks.specs.Events.{clockAfter}
 use Rattle.locks.specs.declared.Event.{Event}
-use Rattle.locks.specs.declared.Event.the-variants.{Start, Stop}
 use Rattle.bench.specs.Demand.{benchAfter, benchAnswers}
 use Rattle.bench.specs.Stepping.{withTest, secondTaken, testTaken, step}
-use Rattle.bench.specs.declared.Answer.the-variants as answer
 use Rattle.bench.specs.declared.Bench.{Bench}
 use Rattle.bench.specs.declared.Handled.{Handled}
 use Rattle.rejudging.specs.Items.{Item, aRow, aStop, itemsOf}
@@ -46,7 +44,6 @@ use Rattle.rejudging.specs.Sheets.{shownFor, shownOf, sheetOf}
 use Rattle.rejudging.specs.Taking.{unitsGiven, rowGiven, itemGiven, stepped, orRefused, ranBy}
 use Rattle.rejudging.specs.declared.Rejudged.the-variants as rejudged
 use Rattle.rejudging.specs.declared.Sheet.{Sheet}
-use Rattle.rejudging.specs.declared.Shown.{Shown}
 use Rattle.rejudging.specs.declared.Shown.the-variants as shown
 use Rattle.rejudging.proofs.WasRead.{start-fit}
 use Rattle.agreement.specs.Agreement.{eventOf, EventsOf, verdictsIn, verdictShown, Agrees, Agreement}
@@ -63,6 +60,7 @@ pub record Tracks (b : Bench) (last : ℕ) (automatic : Bool) (x : Test) : Type 
 -- Before a verdict a test is open.
 open-shown : (st : Stage) → hasEnded st ≡ false → shownOf st ≡ shown.Open
 unfolding hasEnded shownOf
+open-shown NotBegun h = refl
 open-shown Settling h = refl
 open-shown Measuring h = refl
 open-shown Rest h = refl
@@ -92,7 +90,7 @@ module _ (s : List ℕ) (shape : Shape) (automatic : Bool) where
   agrees-open :
       (b : Bench) (last : ℕ) (x : Test) (sheet : Sheet) →
       Tracks b last automatic x →
-      hasEnded (x .progress .stage) ≡ false →
+      isRunning (x .progress .stage) ≡ true →
       sheetOf x ≡ sheet →
       Agrees b [] sheet
   unfolding benchAnswers benchAfter verdictsIn verdictShown sheetOf
@@ -100,7 +98,7 @@ module _ (s : List ℕ) (shape : Shape) (automatic : Bool) where
       subst (Agrees b []) e
       (record {
         accepted = tt;
-        verdicts = rw (open-shown (x .progress .stage) h);
+        verdicts = rw (open-shown (x .progress .stage) (running-open _ h));
         running = λ _. t .running;
         sheet = λ _. rw (t .test);
       })
@@ -159,7 +157,7 @@ module _ (s : List ℕ) (shape : Shape) (automatic : Bool) where
       ranBy s shape automatic l x ≡ rejudged.Judged sheet →
       (c : Bench) →
       Tracks c clock automatic x →
-      hasEnded (x .progress .stage) ≡ false →
+      isRunning (x .progress .stage) ≡ true →
       Agrees c es sheet
 
   agrees-step :
@@ -175,7 +173,7 @@ module _ (s : List ℕ) (shape : Shape) (automatic : Bool) where
   agrees-step l es clock b e y g sheet q a k ev r rest = go (g .next) refl
     where
       on : endsIn (g .next) ≡ false → Agrees b (e ∷ es) sheet
-      on n = agrees-on es clock b e y g sheet n q a k (λ c t. rest (y .test) r c t (g .stage ∙ n))
+      on n = agrees-on es clock b e y g sheet n q a k (λ c t. rest (y .test) r c t (g .stage ∙ ap not n))
 
       go : (n : Next) → g .next ≡ n → Agrees b (e ∷ es) sheet
       go GoesOn n = on (rw n refl)
@@ -190,7 +188,7 @@ module _ (s : List ℕ) (shape : Shape) (automatic : Bool) where
       secondOf (readingsIn s shape (rowStart shape row)) automatic ≡ u →
       last ≤ clock →
       Tracks b last automatic x →
-      hasEnded (x .progress .stage) ≡ false →
+      isRunning (x .progress .stage) ≡ true →
       EventsOf s shape clock l es →
       ranBy s shape automatic (aRow row ∷ l) x ≡ rejudged.Judged sheet →
       Remaining l es clock sheet →
@@ -202,10 +200,10 @@ module _ (s : List ℕ) (shape : Shape) (automatic : Bool) where
       q ∙ simp (t .gearbox, f, t .test)
       in
       agrees-step l es clock b (eventOf s shape clock (aRow row)) (second x u) (second-goes x u h) sheet w (t .gearbox) refl ev
-      (rw (h, f) at r)
+      (rw (running-open _ h, f) at r)
       rest
   agrees-row row l es last clock b x sheet (converted.Refused r₀) f k t h ev r rest =
-      let w : rejudged.Refused _ ≡ rejudged.Judged sheet = rw (h, f) at r in
+      let w : rejudged.Refused _ ≡ rejudged.Judged sheet = rw (running-open _ h, f) at r in
       let z : _≡_ {A = ℕ} 0 1 = cc in
       absurd (omega arith)
 
@@ -214,7 +212,7 @@ module _ (s : List ℕ) (shape : Shape) (automatic : Bool) where
       (i : ℕ) (l : List Item) (es : List Event) (last clock : ℕ) (b : Bench) (x : Test) (sheet : Sheet) →
       last ≤ clock →
       Tracks b last automatic x →
-      hasEnded (x .progress .stage) ≡ false →
+      isRunning (x .progress .stage) ≡ true →
       CausesFit s shape (aStop i ∷ l) →
       EventsOf s shape clock l es →
       ranBy s shape automatic (aStop i ∷ l) x ≡ rejudged.Judged sheet →
@@ -226,14 +224,14 @@ module _ (s : List ℕ) (shape : Shape) (automatic : Bool) where
       stop-taken b clock (t .running) (omega (arith, t .clock)) (stopCauseIn s shape i) ∙ simp (t .test)
       in
       agrees-step l es clock b (eventOf s shape clock (aStop i)) (stop x (stopCauseIn s shape i)) (stop-goes x _ (c .0) h) sheet w
-      (t .gearbox) refl ev (rw h at r) rest
+      (t .gearbox) refl ev (rw (running-open _ h) at r) rest
 
   follows :
       (l : List Item) (es : List Event) (last : ℕ) (b : Bench) (x : Test) (sheet : Sheet) →
       EventsOf s shape last l es →
       CausesFit s shape l →
       Tracks b last automatic x →
-      hasEnded (x .progress .stage) ≡ false →
+      isRunning (x .progress .stage) ≡ true →
       ranBy s shape automatic l x ≡ rejudged.Judged sheet →
       Agrees b es sheet
   unfolding ranBy
@@ -249,13 +247,13 @@ module _ (s : List ℕ) (shape : Shape) (automatic : Bool) where
       (agrees-stop i l es last (ev .0) b x sheet (ev .1) t h c (ev .3) r
       (λ y q d u n. follows l es (ev .0) d y sheet (ev .3) (c .1) u n q))
 
--- A test that began has not ended.
-begun-open : (x : Checked) → begunBy x .answer ≡ test-start.Begins → hasEnded (begunBy x .test .progress .stage) ≡ false
-unfolding begunBy hasEnded
+-- A test that began runs.
+begun-open : (x : Checked) → begunBy x .answer ≡ test-start.Begins → isRunning (begunBy x .test .progress .stage) ≡ true
+unfolding begunBy isRunning
 begun-open (checked.Fit v) h = refl
 begun-open (checked.Refused r) h = let z : _≡_ {A = ℕ} 0 1 = cc in absurd (omega arith)
 
-begins-open : (settings : Settings) (p : ℕ) → begin settings p .answer ≡ test-start.Begins → hasEnded (begin settings p .test .progress .stage) ≡ false
+begins-open : (settings : Settings) (p : ℕ) → begin settings p .answer ≡ test-start.Begins → isRunning (begin settings p .test .progress .stage) ≡ true
 unfolding begin
 begins-open settings p h = begun-open (checkedOf settings p) h
 
@@ -269,8 +267,8 @@ run-of :
 unfolding rejudgedOf rejudgedBy rejudgedAs startedBy
 run-of s shape x e r = rw (e, start-fit s shape e) at r
 
-pub agreed : Agreement
-agreed s shape x below e r b clock es a ev =
+pub same-verdict : Agreement
+same-verdict s shape x below e r b clock es a ev =
     let settings = settingsOf s shape in
     let p = saturationOf s shape in
     rw (admitted b clock settings p a)

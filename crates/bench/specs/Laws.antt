@@ -1,0 +1,73 @@
+-- Laws beside demand 3, for a bench of this V and U: what they say of the answers is read from the list of events and from the accepted ones alone.
+use Prim.Native.Nat.{ℕ, _<_}
+use mathlib.Core.Bool.{true}
+use mathlib.Core.Path.{_≡_}
+use mathlib.Core.Logic.{_↔_}
+use mathlib.Core.List.{List, [], _∷_, _++_, map}
+use lib.ListN.{length, take, drop}
+use Rattle.refusal.specs.Table.{clockEarlier, startLocked}
+use Rattle.refusal.specs.declared.Refusal.{Refusal}
+use Rattle.locks.specs.declared.Event.{Event}
+use Rattle.locks.specs.Events.{clockOf, clockAfter}
+use Rattle.locks.specs.Accepted.{Accepted}
+use Rattle.locks.specs.Locks.{notWarm, inactive, notCalibrated, notSignedIn, passwordLock, authorityLock, unsentLock}
+use Rattle.bench.specs.declared.Answer.the-variants.{Refused}
+use Rattle.bench.specs.declared.Bench.{Bench}
+use Rattle.bench.specs.declared.Handled.{Handled}
+use Rattle.bench.specs.History.{History}
+use Rattle.bench.specs.Causes.{causes}
+use Rattle.bench.specs.Running.{testIn}
+use Rattle.bench.specs.Stepping.{freshBench}
+use Rattle.bench.specs.Demand.{benchAnswers, answerAfter, historyOf}
+
+-- "A refused one .. changes nothing": where the answer is a refusal, the bench is the one that was given, whatever its state.
+abbrev pub BackIfRefused : Bench → Handled → Type 0
+BackIfRefused b x = (r : Refusal) → x .answer ≡ Refused r → x .bench ≡ b
+
+-- The last clock: that of the newest accepted event, or its new clock if it is a clock setting; 0 at first.
+unfoldable pub lastClock : List Accepted → ℕ
+lastClock [] = 0
+lastClock (a ∷ l) = clockAfter (a .event)
+
+-- The lock of this number stands for a start at this clock.
+pub data LockStands (validity limit now : ℕ) (l : List Accepted) : ℕ → Type 0 where
+  lock1 : notWarm l ≡ true → LockStands validity limit now l 1
+  lock2 : inactive now l ≡ true → LockStands validity limit now l 2
+  lock3 : notCalibrated validity now l ≡ true → LockStands validity limit now l 3
+  lock4 : notSignedIn now l ≡ true → LockStands validity limit now l 4
+  lock5 : passwordLock l ≡ true → LockStands validity limit now l 5
+  lock6 : authorityLock l ≡ true → LockStands validity limit now l 6
+  lock7 : unsentLock limit l ≡ true → LockStands validity limit now l 7
+
+-- This lock stands, and none of a lower number.
+pub record LeastLock (validity limit now : ℕ) (l : List Accepted) (n : ℕ) : Type 0 where
+  pub stands : LockStands validity limit now l n
+  pub noneLower : (k : ℕ) → k < n → LockStands validity limit now l k → ⊥
+
+-- For every list of events, of any kinds in any order.
+pub record Laws (validity limit : ℕ) : Type 0 where
+  -- an event that is refused might as well not have been given: whatever comes after it is answered as without it
+  pub struck :
+      (es : List Event) (e : Event) (r : Refusal) (fs : List Event) (f : Event) →
+      answerAfter validity limit es e ≡ Refused r →
+      answerAfter validity limit (es ++ e ∷ fs) f ≡ answerAfter validity limit (es ++ fs) f
+  -- "Events: 11, 12 or 13, then 4, 5, 15 or 8, then 14.": the rows of which the first that stands refuses
+  pub order :
+      (h : History) (e : Event) →
+      map (λ c. c .refusal .number) (causes validity limit h e) ≡ 11 ∷ 12 ∷ 13 ∷ 4 ∷ 5 ∷ 15 ∷ 8 ∷ 14 ∷ []
+  -- "A start is locked by the first standing one"
+  pub least :
+      (es : List Event) (e : Event) (n : ℕ) →
+      answerAfter validity limit es e ≡ Refused (startLocked n) →
+      LeastLock validity limit (clockOf e) (historyOf validity limit es .events) n
+  -- 11 is answered exactly when the event's clock is below the last one, whatever its kind
+  pub clock :
+      (es : List Event) (e : Event) (n : ℕ) →
+      (answerAfter validity limit es e ≡ Refused (clockEarlier n)) ↔
+      ((n ≡ lastClock (historyOf validity limit es .events)) × (clockOf e < n))
+  -- the answer at each split of a list is the list's element there
+  pub split :
+      (es : List Event) (e : Event) (fs : List Event) →
+      take 1 (drop (length es) (benchAnswers (freshBench validity limit) (es ++ e ∷ fs))) ≡ answerAfter validity limit es e ∷ []
+  -- the test that runs is document 01's steps replayed over the accepted seconds and stops since the newest start; a verdict or power-on leaves none
+  pub test : (es : List Event) → historyOf validity limit es .test ≡ testIn (historyOf validity limit es .events)

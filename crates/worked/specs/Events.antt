@@ -1,0 +1,121 @@
+-- What the runs are made of: a vehicle's settings, seconds of a drive, and the events that leave no lock standing.
+use Prim.Native.Nat.{ℕ, suc, zero, _+_}
+use mathlib.Core.Bool.{false, true}
+use mathlib.Core.List.{List, [], _∷_}
+use lib.IntN.{pos, negsuc}
+use lib.Ieee.{fin}
+use Rattle.reading.specs.declared.Reading.{Reading}
+use Rattle.reading.specs.declared.Reading.the-variants.{Value, Missing, Over}
+use Rattle.reading.specs.declared.Readings.{Readings}
+use Rattle.vehicle.specs.declared.Settings.{Settings}
+use Rattle.locks.specs.declared.Calibration.the-variants.{Passed}
+use Rattle.locks.specs.declared.Try.the-variants.{Good}
+use Rattle.locks.specs.declared.Event.{Event}
+use Rattle.locks.specs.declared.Event.the-variants.{WarmUp, Calibration, Try, Start, Second}
+
+-- n times the same, in front of a list.
+abbrev pub times : {A : Type 0} → ℕ → A → List A → List A
+times zero x l = l
+times (suc n) x l = x ∷ times n x l
+
+-- The events, at one clock, that leave lock 4 alone standing: a warm-up and a passed calibration.
+abbrev pub signedOut : ℕ → List Event
+signedOut now = WarmUp now ∷ Calibration now Passed ∷ []
+
+-- A sign-in for 100 s.
+abbrev pub signIn : ℕ → Event
+signIn now = Try now (Good (now + 100))
+
+-- The events, at one clock, that leave no lock standing for a start within 100 s.
+abbrev pub ready : ℕ → List Event
+ready now = signIn now ∷ signedOut now
+
+-- A motorcycle of 2005 with this displacement and gearbox, at 50 %, 20 °C, 1013.
+abbrev pub motorcycle : ℕ → ℕ → Settings
+motorcycle displacement gearbox = record {
+  kind = 1;
+  year = 2005;
+  displacement = displacement;
+  gearbox = gearbox;
+  humidity = 50;
+  temperature = 20;
+  pressure = 1013;
+}
+
+-- A start: 125 ml, automatic gearbox, p 2339.
+abbrev pub start : ℕ → Event
+start now = Start now (motorcycle 125 2) 2339
+
+-- The same start with a manual gearbox.
+abbrev pub manualStart : ℕ → Event
+manualStart now = Start now (motorcycle 125 1) 2339
+
+-- A whole number as a reading.
+abbrev pub whole : ℕ → Reading
+whole n = Value (fin false n (pos 0))
+
+-- CO 1.00, NO 200, CO2 12.0, no O2.
+abbrev pub driven : Reading → Reading → Reading → Reading → Readings
+driven speed load engine hc = record {
+  speed = speed;
+  load = load;
+  engine = engine;
+  hc = hc;
+  co = whole 1;
+  no = whole 200;
+  co2 = whole 12;
+  o2 = Missing;
+}
+
+-- Mode 1: 25.0 km/h and 109/128 kW, which is 85 units.
+abbrev pub one : Reading → Reading → Readings
+one engine hc = driven (whole 25) (Value (fin false 109 (negsuc 6))) engine hc
+
+-- Mode 2: 40.0 km/h and 11/16 kW, which is 69 units.
+abbrev pub two : Reading → Reading → Readings
+two engine hc = driven (whole 40) (Value (fin false 11 (negsuc 3))) engine hc
+
+-- HC within the limit.
+abbrev pub clean : Reading
+clean = whole 100
+
+-- HC above the limit.
+abbrev pub foul : Reading
+foul = whole 1000
+
+-- A second at mode 1's target and load, with no engine speed and this HC.
+abbrev pub atOne : Reading → Event
+atOne hc = Second 2 (one Missing hc)
+
+-- A second at mode 2's target and load.
+abbrev pub atTwo : Reading → Event
+atTwo hc = Second 2 (two Missing hc)
+
+-- A second at mode 1's target and load, with this engine speed.
+abbrev pub turningOne : ℕ → Event
+turningOne engine = Second 2 (one (whole engine) clean)
+
+-- A second at mode 2's target and load, with this engine speed.
+abbrev pub turningTwo : ℕ → Event
+turningTwo engine = Second 2 (two (whole engine) clean)
+
+-- A second at mode 2's target and load, HC over range.
+abbrev pub overInTwo : Event
+overInTwo = Second 2 (two (whole 4000) Over)
+
+-- A second at rest, with an engine speed as it is for any gearbox.
+abbrev pub atRest : Event
+atRest = Second 2 (driven (whole 0) (whole 0) (whole 1000) clean)
+
+-- CO −1, which is unfit.
+abbrev pub unfit : Readings
+unfit = record {
+  speed = whole 25;
+  load = whole 1;
+  engine = Missing;
+  hc = clean;
+  co = Value (fin true 1 (pos 0));
+  no = whole 200;
+  co2 = whole 99;
+  o2 = Missing;
+}
