@@ -1,10 +1,9 @@
 -- How a bench follows the steps of its test. Assumes nothing.
 use Prim.Native.Nat.{ℕ, _≤_}
-use mathlib.Core.Bool.{Bool, true, false, true≢false}
+use mathlib.Core.Bool.{true, false, true≢false}
 use mathlib.Core.Path.{_≡_, refl}
 use native.Mathlib.Omega.{arith}
 use borrow.Author.Tests.{le-ltb}
-use lib.Dec.{eqb}
 use Rattle.refusal.specs.Choice.{pick}
 use Rattle.refusal.proofs.Picked.{on-pick}
 use Rattle.reading.specs.declared.Readings.{Readings}
@@ -20,22 +19,22 @@ use Rattle.loaded_test.specs.declared.Test.{Test}
 use Rattle.loaded_test.specs.declared.Verdict.{Verdict}
 use Rattle.locks.specs.declared.Event.{Event}
 use Rattle.locks.specs.declared.Event.the-variants.{Start, Second, Stop}
-use Rattle.bench.specs.Stepping.{withTest, firstRefusal, fitness, lockRuling, startJudged, startTaken, goneOn, judgedWith, followed, testTaken, secondTaken, stopTaken, deskRuling, ruled, step}
+use Rattle.bench.specs.Stepping.{withTest, firstRefusal, fitness, lockRuling, startJudged, startTaken, goneOn, judgedWith, followed, testTaken, secondTaken, stopTaken, running, stepBy, step}
 use Rattle.bench.specs.declared.Answer.the-variants as answer
 use Rattle.bench.specs.declared.Bench.{Bench}
+use Rattle.bench.specs.declared.Handled.{Handled}
+use Rattle.bench.specs.Causes.{free}
 
 admitted-start :
-    (x : TestStart) (lock : ℕ) (b : Bench) (e : Event) (automatic : Bool) (t : Test) →
-    startJudged (firstRefusal (fitness x) (lockRuling lock)) b e automatic t .answer ≡ answer.Accepted →
-    startJudged (firstRefusal (fitness x) (lockRuling lock)) b e automatic t .bench ≡ withTest (b .desk) e automatic t
+    (x : TestStart) (lock : ℕ) (b : Bench) (e : Event) (t : Test) →
+    startJudged (firstRefusal (fitness x) (lockRuling lock)) b e t .answer ≡ answer.Accepted →
+    startJudged (firstRefusal (fitness x) (lockRuling lock)) b e t .bench ≡ withTest (b .desk) e t
 unfolding lockRuling
-admitted-start (test-start.Refused r) lock b e automatic t h = let z : _≡_ {A = ℕ} 0 1 = cc in absurd (omega arith)
-admitted-start test-start.Begins lock b e automatic t h =
+admitted-start (test-start.Refused r) lock b e t h = let z : _≡_ {A = ℕ} 0 1 = cc in absurd (omega arith)
+admitted-start test-start.Begins lock b e t h =
     on-pick
-    (λ y.
-    startJudged y b e automatic t .answer ≡ answer.Accepted →
-    startJudged y b e automatic t .bench ≡ withTest (b .desk) e automatic t)
-    (eqb lock 0) _ _
+    (λ y. startJudged y b e t .answer ≡ answer.Accepted → startJudged y b e t .bench ≡ withTest (b .desk) e t)
+    (free lock) _ _
     (λ _ _. refl)
     (λ _ k. let z : _≡_ {A = ℕ} 0 1 = cc in absurd (omega arith))
     h
@@ -44,31 +43,30 @@ admitted-start test-start.Begins lock b e automatic t h =
 pub admitted :
     (b : Bench) (clock : ℕ) (settings : Settings) (p : ℕ) →
     step b (Start clock settings p) .answer ≡ answer.Accepted →
-    step b (Start clock settings p) .bench
-    ≡ withTest (b .desk) (Start clock settings p) (eqb (settings .gearbox) 2) (begin settings p .test)
-unfolding step deskRuling startTaken
+    step b (Start clock settings p) .bench ≡ withTest (b .desk) (Start clock settings p) (begin settings p .test)
+unfolding step stepBy startTaken
 admitted b clock settings p h =
     let e : Event = Start clock settings p in
-    let w : Bench = withTest (b .desk) e (eqb (settings .gearbox) 2) (begin settings p .test) in
-    on-pick (λ y. ruled y b e .answer ≡ answer.Accepted → ruled y b e .bench ≡ w) _ _ _
+    let w : Bench = withTest (b .desk) e (begin settings p .test) in
+    on-pick (λ (y : Handled). y .answer ≡ answer.Accepted → y .bench ≡ w) _ _ _
     (λ _ k. let z : _≡_ {A = ℕ} 0 1 = cc in absurd (omega arith))
     (λ _.
-    on-pick (λ y. ruled y b e .answer ≡ answer.Accepted → ruled y b e .bench ≡ w) _ _ _
+    on-pick (λ (y : Handled). y .answer ≡ answer.Accepted → y .bench ≡ w) _ _ _
     (λ _ k. let z : _≡_ {A = ℕ} 0 1 = cc in absurd (omega arith))
     (λ _.
-    on-pick (λ y. ruled y b e .answer ≡ answer.Accepted → ruled y b e .bench ≡ w) _ _ _
+    on-pick (λ (y : Handled). y .answer ≡ answer.Accepted → y .bench ≡ w) _ _ _
     (λ _ k. let z : _≡_ {A = ℕ} 0 1 = cc in absurd (omega arith))
-    (λ _ k. admitted-start (begin settings p .answer) _ b e _ _ k)))
+    (λ _ k. admitted-start (begin settings p .answer) _ b e _ k)))
     h
 
 -- A second and a stop in a running test, in clock order.
-module _ (b : Bench) (clock : ℕ) (r : b .desk .running ≡ true) (k : b .desk .clock ≤ clock) where
+module _ (b : Bench) (clock : ℕ) (r : running b ≡ true) (k : b .desk .clock ≤ clock) where
   pub second-taken : (x : Readings) → step b (Second clock x) ≡ secondTaken b (Second clock x) x
-  unfolding step deskRuling pick
+  unfolding step stepBy pick
   second-taken x = rw (le-ltb clock (b .desk .clock) k, r)
 
   pub stop-taken : (n : ℕ) → step b (Stop clock n) ≡ testTaken (stop (b .test) n) b (Stop clock n)
-  unfolding step deskRuling stopTaken pick
+  unfolding step stepBy stopTaken pick
   stop-taken n = rw (le-ltb clock (b .desk .clock) k, r)
 
 -- What the bench does with what its test told.

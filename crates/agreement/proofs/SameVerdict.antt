@@ -9,7 +9,7 @@ use Rattle.refusal.specs.Choice.{pick}
 use Rattle.reading.specs.Units.{secondOf}
 use Rattle.reading.specs.declared.Converted.{Converted}
 use Rattle.reading.specs.declared.Converted.the-variants as converted
-use Rattle.vehicle.specs.Checked.{checkedOf}
+use Rattle.vehicle.specs.Checked.{vehicleOf, checkedOf}
 use Rattle.vehicle.specs.declared.Checked.{Checked}
 use Rattle.vehicle.specs.declared.Checked.the-variants as checked
 use Rattle.vehicle.specs.declared.Settings.{Settings}
@@ -30,14 +30,18 @@ use Rattle.loaded_test.specs.declared.Verdict.{Verdict}
 use Rattle.loaded_test.specs.declared.Word.{Word}
 use Rattle.loaded_test.specs.declared.Word.the-variants as word
 use Rattle.loaded_test.proofs.Going.{second-goes, stop-goes, running-open}
+use Rattle.loaded_test.proofs.Driven.{second-same, stop-same}
 use Rattle.locks.specs.Events.{clockAfter}
 use Rattle.locks.specs.declared.Event.{Event}
 use Rattle.bench.specs.Demand.{benchAfter, benchAnswers}
-use Rattle.bench.specs.Stepping.{withTest, secondTaken, testTaken, step}
+use Rattle.bench.specs.Stepping.{withTest, secondTaken, testTaken, running as testRuns, step}
 use Rattle.bench.specs.declared.Bench.{Bench}
 use Rattle.bench.specs.declared.Handled.{Handled}
 use Rattle.rejudging.specs.Items.{Item, aRow, aStop, itemsOf}
-use Rattle.vehicle.specs.Settings.{automatic}
+use Rattle.vehicle.specs.Settings.{automatic, unfitPlace}
+use Rattle.correction.specs.Humidity.{saturationFit}
+use Rattle.refusal.specs.Table.{settingUnfit, saturationUnfit}
+use lib.Dec.{eqb}
 use Rattle.rejudging.specs.Rejudging.{settingsOf, saturationOf, startedBy, rejudgedAs, rejudgedBy, rejudgedOf}
 use Rattle.rejudging.specs.Rows.{readingsIn, rowStart}
 use Rattle.rejudging.specs.Sheets.{shownFor, shownOf, sheetOf}
@@ -52,10 +56,13 @@ use Rattle.agreement.proofs.Following.{admitted, second-taken, stop-tak
 
 -- A bench whose test is x, with its last clock and gearbox.
 pub record Tracks (b : Bench) (last : ℕ) (automatic : Bool) (x : Test) : Type 0 where
-  pub running : b .desk .running ≡ true
   pub clock : b .desk .clock ≤ last
-  pub gearbox : b .desk .automatic ≡ automatic
+  pub gearbox : x .vehicle .automatic ≡ automatic
   pub test : b .test ≡ x
+
+-- Its test runs where x does.
+runs-too : (b : Bench) (x : Test) → b .test ≡ x → isRunning (x .progress .stage) ≡ true → testRuns b ≡ true
+runs-too b x e h = ap (λ y. isRunning (y .progress .stage)) e ∙ h
 
 -- Before a verdict a test is open.
 open-shown : (st : Stage) → hasEnded st ≡ false → shownOf st ≡ shown.Open
@@ -99,7 +106,7 @@ module _ (s : List ℕ) (shape : Shape) (automatic : Bool) where
       (record {
         accepted = tt;
         verdicts = rw (open-shown (x .progress .stage) (running-open _ h));
-        running = λ _. t .running;
+        running = λ _. runs-too b x (t .test) h;
         sheet = λ _. rw (t .test);
       })
 
@@ -133,20 +140,20 @@ module _ (s : List ℕ) (shape : Shape) (automatic : Bool) where
       (es : List Event) (clock : ℕ) (b : Bench) (e : Event) (y : Stepped) (g : Goes y) (sheet : Sheet) →
       endsIn (g .next) ≡ false →
       step b e ≡ testTaken y b e →
-      b .desk .automatic ≡ automatic →
+      y .test .vehicle .automatic ≡ automatic →
       clockAfter e ≡ clock →
       ((c : Bench) → Tracks c clock automatic (y .test) → Agrees c es sheet) →
       Agrees b (e ∷ es) sheet
   unfolding benchAnswers benchAfter verdictsIn
   agrees-on es clock b e y g sheet n q a k next =
       let h : step b e ≡ _ = q ∙ goes-on y b e g n in
-      let c : Agrees (withTest (b .desk) e (b .desk .automatic) (y .test)) es sheet =
-      next _ (record { running = refl; clock = rw k (le-refl _); gearbox = a; test = refl })
+      let c : Agrees (withTest (b .desk) e (y .test)) es sheet =
+      next _ (record { clock = rw k (le-refl _); gearbox = a; test = refl })
       in
       record {
         accepted = rw h (c .accepted);
         verdicts = rw h (c .verdicts);
-        running = λ o. subst (λ (z : Handled). benchAfter (z .bench) es .desk .running ≡ true) (sym h) (c .running o);
+        running = λ o. subst (λ (z : Handled). testRuns (benchAfter (z .bench) es) ≡ true) (sym h) (c .running o);
         sheet = λ o. subst (λ (z : Handled). sheetOf (benchAfter (z .bench) es .test) ≡ sheet) (sym h) (c .sheet o);
       }
 
@@ -163,7 +170,7 @@ module _ (s : List ℕ) (shape : Shape) (automatic : Bool) where
   agrees-step :
       (l : List Item) (es : List Event) (clock : ℕ) (b : Bench) (e : Event) (y : Stepped) (g : Goes y) (sheet : Sheet) →
       step b e ≡ testTaken y b e →
-      b .desk .automatic ≡ automatic →
+      y .test .vehicle .automatic ≡ automatic →
       clockAfter e ≡ clock →
       EventsOf s shape clock l es →
       ranBy s shape automatic l (y .test) ≡ rejudged.Judged sheet →
@@ -195,11 +202,12 @@ module _ (s : List ℕ) (shape : Shape) (automatic : Bool) where
       Agrees b (eventOf s shape clock (aRow row) ∷ es) sheet
   unfolding ranBy itemGiven rowGiven unitsGiven stepped orRefused secondTaken pick
   agrees-row row l es last clock b x sheet (converted.Fit u) f k t h ev r rest =
-      let q = second-taken b clock (t .running) (omega (arith, t .clock)) (readingsIn s shape (rowStart shape row)) in
+      let q = second-taken b clock (runs-too b x (t .test) h) (omega (arith, t .clock)) (readingsIn s shape (rowStart shape row)) in
       let w : step b (eventOf s shape clock (aRow row)) ≡ testTaken (second x u) b (eventOf s shape clock (aRow row)) =
-      q ∙ simp (t .gearbox, f, t .test)
+      q ∙ simp (t .test, t .gearbox, f)
       in
-      agrees-step l es clock b (eventOf s shape clock (aRow row)) (second x u) (second-goes x u h) sheet w (t .gearbox) refl ev
+      agrees-step l es clock b (eventOf s shape clock (aRow row)) (second x u) (second-goes x u h) sheet w
+      (ap (λ v. v .automatic) (second-same x u) ∙ t .gearbox) refl ev
       (rw (running-open _ h, f) at r)
       rest
   agrees-row row l es last clock b x sheet (converted.Refused r₀) f k t h ev r rest =
@@ -221,10 +229,10 @@ module _ (s : List ℕ) (shape : Shape) (automatic : Bool) where
   unfolding ranBy itemGiven stepped orRefused pick
   agrees-stop i l es last clock b x sheet k t h c ev r rest =
       let w : step b (eventOf s shape clock (aStop i)) ≡ testTaken (stop x (stopCauseIn s shape i)) b (eventOf s shape clock (aStop i)) =
-      stop-taken b clock (t .running) (omega (arith, t .clock)) (stopCauseIn s shape i) ∙ simp (t .test)
+      stop-taken b clock (runs-too b x (t .test) h) (omega (arith, t .clock)) (stopCauseIn s shape i) ∙ simp (t .test)
       in
       agrees-step l es clock b (eventOf s shape clock (aStop i)) (stop x (stopCauseIn s shape i)) (stop-goes x _ (c .0) h) sheet w
-      (t .gearbox) refl ev (rw (running-open _ h) at r) rest
+      (ap (λ v. v .automatic) (stop-same x (stopCauseIn s shape i)) ∙ t .gearbox) refl ev (rw (running-open _ h) at r) rest
 
   follows :
       (l : List Item) (es : List Event) (last : ℕ) (b : Bench) (x : Test) (sheet : Sheet) →
@@ -257,6 +265,24 @@ begins-open : (settings : Settings) (p : ℕ) → begin settings p .answer ≡ t
 unfolding begin
 begins-open settings p h = begun-open (checkedOf settings p) h
 
+-- Its gearbox is that of its settings.
+begun-gearbox :
+    (settings : Settings) (p : ℕ) →
+    begin settings p .answer ≡ test-start.Begins →
+    begin settings p .test .vehicle .automatic ≡ automatic settings
+unfolding begin begunBy checkedOf vehicleOf pick
+begun-gearbox settings p = go (eqb (unfitPlace settings) 0) (saturationFit p)
+  where
+    go :
+        (a b : Bool) →
+        begunBy (pick a (pick b (checked.Fit (vehicleOf settings p)) (checked.Refused (saturationUnfit 0))) (checked.Refused (settingUnfit (unfitPlace settings)))) .answer
+        ≡ test-start.Begins →
+        begunBy (pick a (pick b (checked.Fit (vehicleOf settings p)) (checked.Refused (saturationUnfit 0))) (checked.Refused (settingUnfit (unfitPlace settings)))) .test .vehicle .automatic
+        ≡ automatic settings
+    go true true h = refl
+    go true false h = let z : _≡_ {A = ℕ} 0 1 = cc in absurd (omega arith)
+    go false b h = let z : _≡_ {A = ℕ} 0 1 = cc in absurd (omega arith)
+
 -- What a record that was read comes to is its run.
 run-of :
     (s : List ℕ) (shape : Shape) (x : Sheet) →
@@ -273,6 +299,6 @@ same-verdict s shape x below e r b clock es a ev =
     let p = saturationOf s shape in
     rw (admitted b clock settings p a)
     (follows s shape (automatic settings) (itemsOf s shape) es clock _ (begin settings p .test) x ev (causes-fit s shape below e)
-    (record { running = refl; clock = le-refl clock; gearbox = refl; test = refl })
+    (record { clock = le-refl clock; gearbox = begun-gearbox settings p (start-fit s shape e); test = refl })
     (begins-open settings p (start-fit s shape e))
     (run-of s shape x e r))

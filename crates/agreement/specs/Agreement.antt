@@ -14,7 +14,7 @@ use Rattle.loaded_test.specs.declared.Word.the-variants as word
 use Rattle.locks.specs.declared.Event.{Event}
 use Rattle.locks.specs.declared.Event.the-variants.{Start, Second, Stop}
 use Rattle.bench.specs.Demand.{benchAfter, benchAnswers}
-use Rattle.bench.specs.Stepping.{step}
+use Rattle.bench.specs.Stepping.{running as testRuns, step}
 use Rattle.bench.specs.declared.Answer.{Answer}
 use Rattle.bench.specs.declared.Answer.the-variants as answer
 use Rattle.bench.specs.declared.Bench.{Bench}
@@ -72,7 +72,7 @@ pub record Agrees (b : Bench) (es : List Event) (x : Sheet) : Type 0 where
   -- the sheet's verdict is the only one that was answered, and none where the sheet is open
   pub verdicts : verdictsIn (benchAnswers b es) ≡ verdictShown (x .word) x
   -- where the sheet is open, a test runs, and the sheet is that test's: mode, t, counts and averages
-  pub running : x .word ≡ shown.Open → benchAfter b es .desk .running ≡ true
+  pub running : x .word ≡ shown.Open → testRuns (benchAfter b es) ≡ true
   pub sheet : x .word ≡ shown.Open → sheetOf (benchAfter b es .test) ≡ x
 
 -- For every list of bytes that is read, every bench that admits a start with its settings and p, and its rows and stops as events.

@@ -21,11 +21,13 @@ use Rattle.loaded_test.specs.declared.Test.{Test}
 use Rattle.loaded_test.specs.Log.{Input, step}
 use Rattle.bench.specs.declared.Answer.the-variants as answer
 use Rattle.locks.specs.declared.Event.{Event}
-use Rattle.locks.specs.declared.Event.the-variants.{PowerOn, ClockSetting, WarmUp, Calibration, Try, AuthorityLock, AuthorityUnlock, Upload, Start, Second, Stop}
+use Rattle.locks.specs.declared.Event.the-variants.{Start, Second, Stop}
+use Rattle.locks.proofs.Sorts.{Sort, serves, starts, measures, stops, sort-of}
 use Rattle.bench.specs.History.{History, runs}
 use Rattle.bench.specs.Causes.{Cause, settingAt, saturationBad, causeBad, automaticIn, readingAt, lockAt, causes, firstCause}
-use Rattle.bench.specs.Telling.{inputOf, verdictNext, verdictTold, endedBy, stepTaken, outcomeOf, acceptance, added, judged, tell}
+use Rattle.bench.specs.Telling.{inputWith, inputOf, verdictNext, verdictTold, endedBy, stepTaken, outcomeOf, acceptance, added, judged, tell}
 use Rattle.bench.specs.Demand.{isAccepted, NoneStand, Unlocked, Gives}
+use Rattle.bench.proofs.Tied.{served}
 use Rattle.bench.proofs.Kept.{none-stand, stand-none, unlocked, no-lock}
 
 accepts : (v : Option Verdict) → isAccepted (acceptance v) ≡ true
@@ -156,31 +158,18 @@ quiet-not x h = let z : _≡_ {A = ℕ} 0 1 = cc in omega arith
 input-not : (i : Input) → none ≡ some i → ⊥
 input-not i h = let z : _≡_ {A = ℕ} 0 1 = cc in omega arith
 
-outcome-gives : (h : History) (e : Event) (x : Verdict) → outcomeOf h e .verdict ≡ some x → Gives h e x
-outcome-gives h (PowerOn clock) x c = absurd (quiet-not x c)
-outcome-gives h (ClockSetting clock new) x c = absurd (quiet-not x c)
-outcome-gives h (WarmUp clock) x c = absurd (quiet-not x c)
-outcome-gives h (Calibration clock outcome) x c = absurd (quiet-not x c)
-outcome-gives h (Try clock outcome) x c = absurd (quiet-not x c)
-outcome-gives h (AuthorityLock clock) x c = absurd (quiet-not x c)
-outcome-gives h (AuthorityUnlock clock) x c = absurd (quiet-not x c)
-outcome-gives h (Upload clock) x c = absurd (quiet-not x c)
-outcome-gives h (Start clock settings p) x c = absurd (quiet-not x c)
-outcome-gives h (Second clock readings) x c = step-gives h (Second clock readings) x (h .test) _ refl refl c
-outcome-gives h (Stop clock cause) x c = step-gives h (Stop clock cause) x (h .test) _ refl refl c
+outcome-gives : (h : History) (e : Event) (x : Verdict) → Sort e → outcomeOf h e .verdict ≡ some x → Gives h e x
+outcome-gives h e x (serves _ s) c = absurd (quiet-not x (sym (ap (λ o. o .verdict) (served h e s)) ∙ c))
+outcome-gives h (Start _ _ _) x (starts clock settings p) c = absurd (quiet-not x c)
+outcome-gives h (Second _ _) x (measures clock readings) c = step-gives h (Second clock readings) x (h .test) _ refl refl c
+outcome-gives h (Stop _ _) x (stops clock cause) c = step-gives h (Stop clock cause) x (h .test) _ refl refl c
 
-gives-outcome : (h : History) (e : Event) (x : Verdict) → Gives h e x → outcomeOf h e .verdict ≡ some x
-gives-outcome h (PowerOn clock) x g = absurd (input-not (g .input) (g .given))
-gives-outcome h (ClockSetting clock new) x g = absurd (input-not (g .input) (g .given))
-gives-outcome h (WarmUp clock) x g = absurd (input-not (g .input) (g .given))
-gives-outcome h (Calibration clock outcome) x g = absurd (input-not (g .input) (g .given))
-gives-outcome h (Try clock outcome) x g = absurd (input-not (g .input) (g .given))
-gives-outcome h (AuthorityLock clock) x g = absurd (input-not (g .input) (g .given))
-gives-outcome h (AuthorityUnlock clock) x g = absurd (input-not (g .input) (g .given))
-gives-outcome h (Upload clock) x g = absurd (input-not (g .input) (g .given))
-gives-outcome h (Start clock settings p) x g = absurd (input-not (g .input) (g .given))
-gives-outcome h (Second clock readings) x g = gives-step h (Second clock readings) x g
-gives-outcome h (Stop clock cause) x g = gives-step h (Stop clock cause) x g
+gives-outcome : (h : History) (e : Event) (x : Verdict) → Sort e → Gives h e x → outcomeOf h e .verdict ≡ some x
+gives-outcome h e x (serves _ s) g =
+    absurd (input-not (g .input) (sym (ap (inputWith (automaticIn (h .events))) (s .carries)) ∙ g .given))
+gives-outcome h (Start _ _ _) x (starts clock settings p) g = absurd (input-not (g .input) (g .given))
+gives-outcome h (Second _ _) x (measures clock readings) g = gives-step h (Second clock readings) x g
+gives-outcome h (Stop _ _) x (stops clock cause) g = gives-step h (Stop clock cause) x g
 
 acceptance-verdict : (v : Option Verdict) (x : Verdict) → acceptance v ≡ answer.Judged x → v ≡ some x
 unfolding acceptance
@@ -203,6 +192,6 @@ verdicts-exactly validity limit h e x = go (firstCause (causes validity limit h 
       (λ n. let z : _≡_ {A = ℕ} 0 1 = cc (stand-none (causes validity limit h e) (n .0)) in absurd (omega arith)),
     )
     go none c = (
-      (λ a. (none-stand (causes validity limit h e) c, outcome-gives h e x (acceptance-verdict (outcomeOf h e .verdict) x a))),
-      (λ n. rw (gives-outcome h e x (n .1))),
+      (λ a. (none-stand (causes validity limit h e) c, outcome-gives h e x (sort-of e) (acceptance-verdict (outcomeOf h e .verdict) x a))),
+      (λ n. rw (gives-outcome h e x (sort-of e) (n .1))),
     )

@@ -21,10 +21,11 @@ use Rattle.loaded_test.specs.Log.{Input, aSecond, aStop, Entry, step, replay, l
 use Rattle.loaded_test.specs.Claim.{Measures, more as measuresMore, Earned, PassClaim}
 use Rattle.loaded_test.proofs.Passing.{passes}
 use Rattle.locks.specs.declared.Event.{Event}
-use Rattle.locks.specs.declared.Event.the-variants.{PowerOn, ClockSetting, WarmUp, Calibration, Try, AuthorityLock, AuthorityUnlock, Upload, Start, Second, Stop}
+use Rattle.locks.specs.declared.Event.the-variants.{Start, Second, Stop}
+use Rattle.locks.proofs.Sorts.{Sort, serves, starts, measures, stops, sort-of}
 use Rattle.locks.specs.Accepted.{Accepted, accepted, since}
 use Rattle.bench.specs.Causes.{automaticIn}
-use Rattle.bench.specs.Telling.{secondInput, inputOf}
+use Rattle.bench.specs.Telling.{secondInput, inputWith, inputOf}
 use Rattle.vehicle.specs.Settings.{automatic}
 use Rattle.bench.specs.Running.{inputsSince}
 use Rattle.bench.specs.Passes.{Since, seconded, stopped, Reads, noMore, before, pass, PassEarned}
@@ -66,17 +67,13 @@ newest-reads :
     inputOf auto e ≡ some (aSecond s) →
     Reads auto ss l →
     Reads auto (s ∷ ss) (accepted e verdict ∷ l)
-newest-reads (PowerOn clock) verdict auto s ss l h r = absurd (input-not (aSecond s) h)
-newest-reads (ClockSetting clock new) verdict auto s ss l h r = absurd (input-not (aSecond s) h)
-newest-reads (WarmUp clock) verdict auto s ss l h r = absurd (input-not (aSecond s) h)
-newest-reads (Calibration clock outcome) verdict auto s ss l h r = absurd (input-not (aSecond s) h)
-newest-reads (Try clock outcome) verdict auto s ss l h r = absurd (input-not (aSecond s) h)
-newest-reads (AuthorityLock clock) verdict auto s ss l h r = absurd (input-not (aSecond s) h)
-newest-reads (AuthorityUnlock clock) verdict auto s ss l h r = absurd (input-not (aSecond s) h)
-newest-reads (Upload clock) verdict auto s ss l h r = absurd (input-not (aSecond s) h)
-newest-reads (Start clock settings p) verdict auto s ss l h r = absurd (input-not (aSecond s) h)
-newest-reads (Second clock readings) verdict auto s ss l h r = before (second-input (secondOf readings auto) s h) r
-newest-reads (Stop clock cause) verdict auto s ss l h r = absurd (input-second cause s h)
+newest-reads e verdict auto s ss l h r = go e (sort-of e) h
+  where
+    go : (e : Event) → Sort e → inputOf auto e ≡ some (aSecond s) → Reads auto (s ∷ ss) (accepted e verdict ∷ l)
+    go e (serves _ x) h = absurd (input-not (aSecond s) (sym (ap (inputWith auto) (x .carries)) ∙ h))
+    go (Start _ _ _) (starts clock settings p) h = absurd (input-not (aSecond s) h)
+    go (Second _ _) (measures clock readings) h = before (second-input (secondOf readings auto) s h) r
+    go (Stop _ _) (stops clock cause) h = absurd (input-second cause s h)
 
 -- A pass told by a test that follows the accepted events is earned by them.
 pub earned-pass :

@@ -15,9 +15,9 @@ use Rattle.refusal.specs.declared.Refusal.{Refusal}
 use Rattle.locks.specs.declared.Event.{Event}
 use Rattle.locks.specs.Events.{clockOf, startIn, Starting}
 use Rattle.locks.specs.Accepted.{Accepted}
-use Rattle.locks.specs.Locks.{locks, firstStanding, lockOf}
+use Rattle.locks.specs.Locks.{standingIn, inOrder, firstStanding, lockInOrder, lockOf}
 use Rattle.bench.specs.History.{History}
-use Rattle.bench.specs.Causes.{Cause, causeAt, lockAt, causes, firstCause}
+use Rattle.bench.specs.Causes.{Cause, lockAt, locked, causes, firstCause}
 use Rattle.bench.specs.Laws.{LockStands, lock1, lock2, lock3, lock4, lock5, lock6, lock7, LeastLock}
 
 -- A row that returns another refusal is passed by.
@@ -101,8 +101,7 @@ module _ (validity limit now : ℕ) (l : List Accepted) where
   abbrev Stands : ℕ → Type 0
   Stands n = LockStands validity limit now l n
 
-  stands-here : (i : ℕ) → getD (locks validity limit now l) i false ≡ true → Stands (1 + i)
-  unfolding locks
+  stands-here : (i : ℕ) → getD (inOrder (standingIn validity limit now l)) i false ≡ true → Stands (1 + i)
   stands-here zero h = lock1 h
   stands-here (suc zero) h = lock2 h
   stands-here (suc (suc zero)) h = lock3 h
@@ -112,8 +111,7 @@ module _ (validity limit now : ℕ) (l : List Accepted) where
   stands-here (suc (suc (suc (suc (suc (suc zero)))))) h = lock7 h
   stands-here (suc (suc (suc (suc (suc (suc (suc i))))))) h = absurd (true≢false (sym h))
 
-  here-stands : (n : ℕ) → Stands n → (1 ≤ n) × (getD (locks validity limit now l) (n - 1) false ≡ true)
-  unfolding locks
+  here-stands : (n : ℕ) → Stands n → (1 ≤ n) × (getD (inOrder (standingIn validity limit now l)) (n - 1) false ≡ true)
   here-stands n (lock1 s) = (omega arith, s)
   here-stands n (lock2 s) = (omega arith, s)
   here-stands n (lock3 s) = (omega arith, s)
@@ -124,9 +122,9 @@ module _ (validity limit now : ℕ) (l : List Accepted) where
 
   -- The first lock's number is the least of those that stand.
   least-lock : (n : ℕ) → lockOf validity limit now l ≡ n → (n ≡ 0 → ⊥) → LeastLock validity limit now l n
-  unfolding lockOf
+  unfolding lockOf lockInOrder
   least-lock n h one =
-      let f : First (locks validity limit now l) 1 n = first-standing (locks validity limit now l) 1 n h one in
+      let f : First (inOrder (standingIn validity limit now l)) 1 n = first-standing (inOrder (standingIn validity limit now l)) 1 n h one in
       record {
         stands = subst Stands (sym (f .number)) (stands-here (f .place) (f .here));
         noneLower = λ k less s.
@@ -139,7 +137,7 @@ differ : (a n x y : ℕ) → (a ≡ n → ⊥) → refusal a x ≡ refusal n y �
 differ a n x y ne h = ne (ap (λ r. r .number) h)
 
 -- The last row, alone: what it returns, and that it stands.
-last-row : (place n : ℕ) → firstCause (causeAt place startLocked ∷ []) ≡ some (startLocked n) → (place ≡ n) × (n ≡ 0 → ⊥)
+last-row : (place n : ℕ) → firstCause (locked place ∷ []) ≡ some (startLocked n) → (place ≡ n) × (n ≡ 0 → ⊥)
 unfolding firstCause pick
 last-row place n h = go (eqb place 0) refl h
   where

@@ -1,7 +1,8 @@
 -- The history's last clock and its test are read from the accepted events. Assumes nothing.
 use Prim.Native.Nat.{ℕ}
-use mathlib.Core.Bool.{Bool, true, false}
-use mathlib.Core.Path.{_≡_, refl, sym, _∙_, subst}
+use mathlib.Core.Bool.{Bool, true, false, _||_}
+use lib.Dec.{eqb}
+use mathlib.Core.Path.{_≡_, refl, ap, sym, _∙_, subst, subst⁻¹}
 use mathlib.Core.List.{List, [], _∷_}
 use mathlib.Core.Option.{Option, none, some}
 use borrow.Author.Tests.{eqb-true, not-false}
@@ -16,15 +17,17 @@ use Rattle.loaded_test.specs.declared.Test.{Test}
 use Rattle.loaded_test.specs.Steps.{begin, begunBy}
 use Rattle.loaded_test.specs.Log.{Input, step, replay}
 use Rattle.locks.specs.declared.Event.{Event}
-use Rattle.locks.specs.declared.Event.the-variants.{PowerOn, ClockSetting, WarmUp, Calibration, Try, AuthorityLock, AuthorityUnlock, Upload, Start, Second, Stop}
-use Rattle.locks.specs.Events.{startIn, Starting}
+use Rattle.locks.specs.declared.Event.the-variants.{Start, Second, Stop}
+use Rattle.locks.proofs.Sorts.{Serves, Sort, serves, starts, measures, stops, sort-of}
+use Rattle.locks.specs.Events.{kindOf, startWith, startIn, Starting}
 use Rattle.locks.specs.Accepted.{Accepted, accepted, isKind, since, orElse, latestOf}
 use Rattle.bench.specs.History.{History}
 use Rattle.bench.specs.Causes.{settingAt, saturationBad, automaticIn, causes, firstCause}
-use Rattle.bench.specs.Telling.{inputOf, verdictTold, endedBy, stepTaken, outcomeOf, added, judged, tell, historyAfter}
+use Rattle.bench.specs.Telling.{inputWith, inputOf, verdictTold, Outcome, endedBy, stepTaken, leftBy, outcomeOf, added, judged, tell, historyAfter}
 use Rattle.bench.specs.Running.{withInput, inputsOf, inputsSince, brought, endsTest, replayedFrom, testIn}
 use Rattle.bench.specs.Demand.{NoneStand}
 use Rattle.bench.specs.Laws.{lastClock}
+use Rattle.bench.proofs.Tied.{served}
 use Rattle.bench.proofs.Kept.{none-stand, checked-fit}
 
 -- What a second or a stop leaves: none after a verdict, else the test that took its input.
@@ -98,24 +101,38 @@ module _ (l : List Accepted) (last : ℕ) where
   unfolding testIn since inputsOf pick latestOf orElse brought replayedFrom replay begin begunBy
   begun-read clock settings p o a b = rw (checked-fit settings p a b)
 
+  -- An event that is no start, second or stop.
+  served-left : (o : Option Test) (e : Event) → Serves e → o ≡ testIn l → leftBy (kindOf e) o ≡ testIn (accepted e none ∷ l)
+  unfolding leftBy testIn since inputsOf withInput latestOf orElse brought replayedFrom pick
+  served-left o e s h =
+      go (eqb (kindOf e) 1) ∙
+      sym (rw (s .notStart, since-verdict (accepted e none) l (eqb (kindOf e) 1 || false) other, other, ap (inputWith (automaticIn l)) (s .carries)))
+    where
+      other : startIn e ≡ none
+      other = ap startWith (s .carries)
+
+      go :
+          (b : Bool) →
+          pick b none o ≡ replayedFrom (pick (b || false) none (latestOf startIn (since endsTest l))) (inputsSince l)
+      go true = refl
+      go false = h
+
+  served-read : (o : Option Test) (e : Event) → Serves e → o ≡ testIn l → Read o e
+  served-read o e s h =
+      subst⁻¹ (λ (x : Outcome). x .test ≡ testIn (accepted e (x .verdict) ∷ l)) (served (at o) e s) (served-left o e s h)
+
   accepted-read :
       (validity limit : ℕ) (o : Option Test) (e : Event) →
+      Sort e →
       o ≡ testIn l →
       NoneStand (causes validity limit (at o) e) →
       Read o e
-  unfolding testIn since inputsOf withInput pick latestOf orElse brought replayedFrom causes settingAt saturationBad
-  accepted-read validity limit o (PowerOn clock) h n = refl
-  accepted-read validity limit o (ClockSetting clock new) h n = h
-  accepted-read validity limit o (WarmUp clock) h n = h
-  accepted-read validity limit o (Calibration clock outcome) h n = h
-  accepted-read validity limit o (Try clock outcome) h n = h
-  accepted-read validity limit o (AuthorityLock clock) h n = h
-  accepted-read validity limit o (AuthorityUnlock clock) h n = h
-  accepted-read validity limit o (Upload clock) h n = h
-  accepted-read validity limit o (Start clock settings p) h n =
+  unfolding causes settingAt saturationBad
+  accepted-read validity limit o e (serves _ s) h n = served-read o e s h
+  accepted-read validity limit o (Start _ _ _) (starts clock settings p) h n =
       begun-read clock settings p o (eqb-true _ _ (not-false _ (n .1 .1 .1 .0))) (not-false _ (n .1 .1 .1 .1 .0))
-  accepted-read validity limit o (Second clock readings) h n = stepped-read (Second clock readings) o h refl refl refl
-  accepted-read validity limit o (Stop clock cause) h n = stepped-read (Stop clock cause) o h refl refl refl
+  accepted-read validity limit o (Second _ _) (measures clock readings) h n = stepped-read (Second clock readings) o h refl refl refl
+  accepted-read validity limit o (Stop _ _) (stops clock cause) h n = stepped-read (Stop clock cause) o h refl refl refl
 
 -- What the history keeps beside the accepted events is read from them.
 pub record FromEvents (h : History) : Type 0 where
@@ -131,7 +148,7 @@ told-read validity limit h e f = go (firstCause (causes validity limit h e)) ref
     go none c = record {
       clock = refl;
       test =
-          accepted-read (h .events) (h .last) validity limit (h .test) e (f .test)
+          accepted-read (h .events) (h .last) validity limit (h .test) e (sort-of e) (f .test)
           (none-stand (causes validity limit h e) c);
     }
 

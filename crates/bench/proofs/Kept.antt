@@ -2,17 +2,19 @@
 use Prim.Native.Nat.{ℕ, _≤_, _<_}
 use native.Mathlib.Omega.{arith}
 use mathlib.Core.Bool.{Bool, true, false, true≢false, not}
-use mathlib.Core.Path.{_≡_, refl, ap, sym, _∙_, subst}
+use mathlib.Core.Path.{_≡_, refl, ap, _∙_, subst}
 use mathlib.Core.List.{List, [], _∷_}
 use mathlib.Core.Option.{Option, none, some}
 use borrow.Author.Tests.{eqb-false, eqb-true, not-false}
-use lib.Dec.{leb, eqb}
+use lib.Dec.{eqb}
 use Rattle.refusal.specs.Choice.{pick}
 use Rattle.refusal.specs.declared.Refusal.{Refusal}
 use Rattle.reading.specs.declared.Readings.{Readings}
 use Rattle.reading.specs.declared.Converted.{Converted}
 use Rattle.reading.specs.declared.Converted.the-variants as converted
-use Rattle.reading.specs.Units.{secondOf, unfitCode}
+use Rattle.reading.specs.Units.{secondOf}
+use Rattle.reading.specs.Fitness.{ToldBy}
+use Rattle.reading.proofs.Least.{least-refused}
 use Rattle.correction.specs.Humidity.{saturationFit}
 use Rattle.vehicle.specs.declared.Settings.{Settings}
 use Rattle.vehicle.specs.Settings.{unfitPlace}
@@ -29,18 +31,19 @@ use Rattle.loaded_test.specs.Log.{Input, aSecond, aStop, Entry, step, replay, l
 use Rattle.loaded_test.specs.Going.{isRunning, endsIn, Goes}
 use Rattle.loaded_test.proofs.Going.{second-goes, stop-goes}
 use Rattle.locks.specs.declared.Event.{Event}
-use Rattle.locks.specs.declared.Event.the-variants.{PowerOn, ClockSetting, WarmUp, Calibration, Try, AuthorityLock, AuthorityUnlock, Upload, Start, Second, Stop}
+use Rattle.locks.specs.declared.Event.the-variants.{Start, Second, Stop}
 use Rattle.locks.specs.Events.{kindOf}
-use Rattle.locks.specs.Accepted.{Accepted, accepted, since, orElse, latestOf}
-use Rattle.locks.specs.Locks.{withVerdict, verdictsIn, unsentIn, unsentLock, locks, firstStanding, lockOf}
+use Rattle.locks.specs.Accepted.{Accepted, accepted, isKind, since, orElse, latestOf}
+use Rattle.locks.proofs.Sorts.{Serves, Sort, serves, starts, measures, stops, sort-of}
+use Rattle.locks.specs.Locks.{withVerdict, verdictsIn, unsentIn, unsentLock, firstStanding, lockInOrder, lockOf}
 use Rattle.bench.specs.History.{History, runs}
-use Rattle.bench.specs.Causes.{Cause, settingAt, saturationBad, causeBad, automaticOf, automaticIn, readingAt, lockAt, causes, firstCause}
-use Rattle.bench.specs.Telling.{secondInput, verdictNext, verdictTold, endedBy, stepTaken, outcomeOf, added, judged, tell}
+use Rattle.bench.specs.Causes.{Cause, insideTest, settingAt, saturationBad, causeBad, automaticOf, automaticIn, readingAt, lockAt, causes, firstCause}
+use Rattle.bench.specs.Telling.{secondInput, verdictNext, verdictTold, endedBy, stepTaken, leftBy, outcomeOf, added, judged, tell}
 use Rattle.bench.specs.Running.{withInput, inputsOf, inputsSince}
 use Rattle.bench.specs.Passes.{Since, started, seconded, stopped}
 use Rattle.bench.specs.Demand.{NoneStand, Unlocked}
 use Rattle.bench.proofs.Sound.{Follows, Runs, Sound}
-use Rattle.bench.proofs.Tied.{Coded, coded}
+use Rattle.bench.proofs.Tied.{served, none-left}
 
 pick-none : (b : Bool) (r : Refusal) (o : Option Refusal) → pick b (some r) o ≡ none → (b ≡ false) × (o ≡ none)
 unfolding pick
@@ -67,7 +70,7 @@ stands-zero true n m c h = absurd (c h)
 stands-zero false n m c h = (refl, h)
 
 pub unlocked : (validity limit now : ℕ) (l : List Accepted) → lockOf validity limit now l ≡ 0 → Unlocked validity limit now l
-unfolding lockOf locks firstStanding
+unfolding lockOf lockInOrder firstStanding
 unlocked validity limit now l h =
     let h₁ = stands-zero _ _ _ (eqb-false 1 0 refl) h in
     let h₂ = stands-zero _ _ _ (eqb-false 2 0 refl) (h₁ .1) in
@@ -87,7 +90,7 @@ unlocked validity limit now l h =
     }
 
 pub no-lock : (validity limit now : ℕ) (l : List Accepted) → Unlocked validity limit now l → lockOf validity limit now l ≡ 0
-unfolding lockOf locks firstStanding pick
+unfolding lockOf lockInOrder firstStanding pick
 no-lock validity limit now l h =
     rw (h .warm, h .active, h .calibrated, h .signedIn, h .password, h .authority, h .unsent)
 
@@ -133,27 +136,20 @@ module _ (validity limit : ℕ) (l : List Accepted) (last : ℕ) where
       NoneStand (causes validity limit (at o) e) →
       Sound limit (added (at o) e (outcomeOf (at o) e) .history)
 
-  -- Kinds 1 to 8 leave no test.
-  plain-kept : (o : Option Test) (e : Event) → leb (kindOf e) 8 ≡ true → Kept o e
-  unfolding causes runs added unsentIn since pick verdictsIn withVerdict
-  plain-kept o (PowerOn clock) k u r n = record { unsent = u; test = tt }
-  plain-kept none (ClockSetting clock new) k u r n = record { unsent = u; test = tt }
-  plain-kept (some t) (ClockSetting clock new) k u r n = absurd (true≢false (n .1 .0))
-  plain-kept none (WarmUp clock) k u r n = record { unsent = u; test = tt }
-  plain-kept (some t) (WarmUp clock) k u r n = absurd (true≢false (n .1 .0))
-  plain-kept none (Calibration clock outcome) k u r n = record { unsent = u; test = tt }
-  plain-kept (some t) (Calibration clock outcome) k u r n = absurd (true≢false (n .1 .0))
-  plain-kept none (Try clock outcome) k u r n = record { unsent = u; test = tt }
-  plain-kept (some t) (Try clock outcome) k u r n = absurd (true≢false (n .1 .0))
-  plain-kept none (AuthorityLock clock) k u r n = record { unsent = u; test = tt }
-  plain-kept (some t) (AuthorityLock clock) k u r n = absurd (true≢false (n .1 .0))
-  plain-kept none (AuthorityUnlock clock) k u r n = record { unsent = u; test = tt }
-  plain-kept (some t) (AuthorityUnlock clock) k u r n = absurd (true≢false (n .1 .0))
-  plain-kept none (Upload clock) k u r n = record { unsent = omega arith; test = tt }
-  plain-kept (some t) (Upload clock) k u r n = absurd (true≢false (n .1 .0))
-  plain-kept o (Start clock settings p) k u r n = absurd (true≢false (sym k))
-  plain-kept o (Second clock readings) k u r n = absurd (true≢false (sym k))
-  plain-kept o (Stop clock cause) k u r n = absurd (true≢false (sym k))
+  -- An event that is no start, second or stop brings no verdict and leaves no test.
+  unsent-plain : (e : Event) → unsentIn l ≤ limit → unsentIn (accepted e none ∷ l) ≤ limit
+  unfolding unsentIn since verdictsIn withVerdict pick
+  unsent-plain e u = go (eqb (kindOf e) 8)
+    where
+      go : (b : Bool) → verdictsIn (pick b [] (accepted e none ∷ since (isKind 8) l)) ≤ limit
+      go true = omega arith
+      go false = u
+
+  plain-kept : (o : Option Test) (e : Event) → Serves e → Kept o e
+  unfolding causes added leftBy
+  plain-kept o e s u r n =
+      rw (served (at o) e s, none-left o (eqb (kindOf e) 1) (insideTest (kindOf e)) (s .notInside) (n .1 .0))
+      (record { unsent = unsent-plain e u; test = tt })
 
   -- An admitted start begins a test.
   begun-runs :
@@ -226,15 +222,14 @@ module _ (validity limit : ℕ) (l : List Accepted) (last : ℕ) where
   second-kept :
       (clock : ℕ) (readings : Readings) (t : Test) (x : Converted) →
       secondOf readings (automaticIn l) ≡ x →
-      eqb (unfitCode x) 0 ≡ true →
-      ((y : Refusal) → x ≡ converted.Refused y → eqb (y .place) 0 ≡ false) →
+      ToldBy 0 x →
       Runs limit l (some t) →
       Sound limit (added (at (some t)) (Second clock readings) (stepTaken (some t) (secondInput x)) .history)
-  unfolding secondInput unfitCode unsentIn since pick verdictsIn latestOf orElse inputsOf withInput
-  second-kept clock readings t (converted.Fit s) e k z r =
+  unfolding secondInput ToldBy unsentIn since pick verdictsIn latestOf orElse inputsOf withInput
+  second-kept clock readings t (converted.Fit s) e z r =
       input-kept (Second clock readings) t (aSecond s) (second-goes t s (r .0)) r (λ _. refl) refl (rw e)
       (λ f x log i since. seconded (subst (λ b. secondOf readings b ≡ converted.Fit s) (f .gearbox) e) i since)
-  second-kept clock readings t (converted.Refused y) e k z r = absurd (true≢false (sym k ∙ z y refl))
+  second-kept clock readings t (converted.Refused y) e z r = absurd (omega (arith, z .1))
 
   stop-kept :
       (clock cause : ℕ) (t : Test) →
@@ -246,26 +241,19 @@ module _ (validity limit : ℕ) (l : List Accepted) (last : ℕ) where
       input-kept (Stop clock cause) t (aStop cause) (stop-goes t cause c (r .0)) r (λ _. refl) refl refl
       (λ f x log i since. stopped i since)
 
-  accepted-kept : (o : Option Test) (e : Event) → Kept o e
+  accepted-kept : (o : Option Test) (e : Event) → Sort e → Kept o e
   unfolding causes runs causeBad readingAt
-  accepted-kept o (PowerOn clock) = plain-kept o (PowerOn clock) refl
-  accepted-kept o (ClockSetting clock new) = plain-kept o (ClockSetting clock new) refl
-  accepted-kept o (WarmUp clock) = plain-kept o (WarmUp clock) refl
-  accepted-kept o (Calibration clock outcome) = plain-kept o (Calibration clock outcome) refl
-  accepted-kept o (Try clock outcome) = plain-kept o (Try clock outcome) refl
-  accepted-kept o (AuthorityLock clock) = plain-kept o (AuthorityLock clock) refl
-  accepted-kept o (AuthorityUnlock clock) = plain-kept o (AuthorityUnlock clock) refl
-  accepted-kept o (Upload clock) = plain-kept o (Upload clock) refl
-  accepted-kept o (Start clock settings p) = start-kept o clock settings p
-  accepted-kept none (Second clock readings) = λ u r n. absurd (true≢false (n .1 .1 .0))
-  accepted-kept (some t) (Second clock readings) =
+  accepted-kept o e (serves _ s) = plain-kept o e s
+  accepted-kept o (Start _ _ _) (starts clock settings p) = start-kept o clock settings p
+  accepted-kept none (Second _ _) (measures clock readings) = λ u r n. absurd (true≢false (n .1 .1 .0))
+  accepted-kept (some t) (Second _ _) (measures clock readings) =
       λ u r n.
       second-kept clock readings t (secondOf readings (automaticIn l)) refl
-      (not-false _ (n .1 .1 .1 .1 .1 .1 .0))
-      (λ y e. subst Coded e (coded readings (automaticIn l)) .1)
+      (subst (λ n. ToldBy n (secondOf readings (automaticIn l))) (eqb-true _ _ (not-false _ (n .1 .1 .1 .1 .1 .1 .0)))
+      (least-refused readings (automaticIn l)))
       r
-  accepted-kept none (Stop clock cause) = λ u r n. absurd (true≢false (n .1 .1 .0))
-  accepted-kept (some t) (Stop clock cause) = λ u r n. stop-kept clock cause t (not-false _ (n .1 .1 .1 .1 .1 .0)) r
+  accepted-kept none (Stop _ _) (stops clock cause) = λ u r n. absurd (true≢false (n .1 .1 .0))
+  accepted-kept (some t) (Stop _ _) (stops clock cause) = λ u r n. stop-kept clock cause t (not-false _ (n .1 .1 .1 .1 .1 .0)) r
 
 -- Every event keeps it.
 pub kept :
@@ -277,5 +265,5 @@ kept validity limit h e sound = go (firstCause (causes validity limit h e)) refl
         (o : Option Refusal) → firstCause (causes validity limit h e) ≡ o → Sound limit (judged o h e .history)
     go (some r) c = sound
     go none c =
-        accepted-kept validity limit (h .events) (h .last) (h .test) e (sound .unsent) (sound .test)
+        accepted-kept validity limit (h .events) (h .last) (h .test) e (sort-of e) (sound .unsent) (sound .test)
         (none-stand (causes validity limit h e) c)

@@ -17,6 +17,7 @@ use Rattle.locks.specs.declared.Event.the-variants.{Start}
 use Rattle.locks.specs.Events.{clockOf}
 use Rattle.locks.specs.Accepted.{since, latestOf}
 use Rattle.locks.specs.Locks.{unsentIn, unsentLock}
+use Rattle.locks.proofs.Stands.{stands-exactly}
 use Rattle.bench.specs.declared.Answer.the-variants as answer
 use Rattle.bench.specs.declared.Bench.{Bench}
 use Rattle.bench.specs.declared.Opened.{Opened}
@@ -66,6 +67,7 @@ module _ (validity limit : ℕ) (fit : limit ≤ 255) where
     struck = λ es e r fs f h. struck (freshBench validity limit) es e r fs f h;
     order = λ h e. refl;
     least = λ es e n a. locked-least validity limit (historyOf validity limit es) e n (first-row es e (startLocked n) .0 a);
+    locks = stands-exactly validity limit;
     clock = clock-law;
     split = λ es e fs. split (freshBench validity limit) es e fs;
     test = λ es. read es .test;

@@ -1,11 +1,11 @@
 -- A refused event gives back the bench that it was given to. Assumes nothing.
 use Prim.Native.Nat.{ℕ}
 use native.Mathlib.Omega.{arith}
-use mathlib.Core.Bool.{Bool}
 use mathlib.Core.Path.{_≡_, refl, ap, sym, _∙_, subst⁻¹}
 use mathlib.Core.List.{List, [], _∷_, _++_}
 use lib.ListN.{length, take, drop}
 use Rattle.refusal.specs.declared.Refusal.{Refusal}
+use Rattle.refusal.proofs.Picked.{on-pick}
 use Rattle.reading.specs.declared.Converted.{Converted}
 use Rattle.reading.specs.declared.Converted.the-variants as converted
 use Rattle.reading.specs.Units.{secondOf}
@@ -17,14 +17,16 @@ use Rattle.loaded_test.specs.declared.Answer.the-variants as test-answer
 use Rattle.loaded_test.specs.declared.Test.{Test}
 use Rattle.loaded_test.specs.Steps.{begin, second, stop}
 use Rattle.locks.specs.declared.Event.{Event}
-use Rattle.locks.specs.declared.Event.the-variants.{PowerOn, ClockSetting, WarmUp, Calibration, Try, AuthorityLock, AuthorityUnlock, Upload, Start, Second, Stop}
-use Rattle.vehicle.specs.Settings.{automatic}
+use Rattle.locks.specs.declared.Carried.{Carried}
+use Rattle.locks.specs.declared.Carried.the-variants as carried
+use Rattle.locks.specs.declared.Contents.{Contents}
+use Rattle.locks.specs.Events.{contentsOf, clockOf, carriedBy}
 use Rattle.bench.specs.declared.Answer.the-variants as answer
 use Rattle.bench.specs.declared.Bench.{Bench}
 use Rattle.bench.specs.declared.Handled.{Handled}
 use Rattle.bench.specs.declared.Ruling.{Ruling}
 use Rattle.bench.specs.declared.Ruling.the-variants as ruling
-use Rattle.bench.specs.Stepping.{startRuling, startJudged, startTaken, followed, answered, secondJudged, secondTaken, stopTaken, taken, deskRuling, ruled, step}
+use Rattle.bench.specs.Stepping.{startRuling, startJudged, startTaken, followed, answered, secondJudged, secondTaken, stopTaken, taken, stepBy, step}
 use Rattle.bench.specs.Demand.{benchAfter, benchAnswers}
 use Rattle.bench.specs.Laws.{BackIfRefused}
 
@@ -51,39 +53,36 @@ module _ (b : Bench) (e : Event) where
   second-back (converted.Fit s) = answered-back (second (b .test) s .answer) (second (b .test) s .test)
   second-back (converted.Refused y) = λ r h. refl
 
-  start-back : (x : Ruling) (auto : Bool) (t : Test) → BackIfRefused b (startJudged x b e auto t)
-  start-back ruling.Taken auto t r h = absurd (accepted-not r h)
-  start-back (ruling.Refused y) auto t r h = refl
+  start-back : (x : Ruling) (t : Test) → BackIfRefused b (startJudged x b e t)
+  start-back ruling.Taken t r h = absurd (accepted-not r h)
+  start-back (ruling.Refused y) t r h = refl
 
-taken-back : (b : Bench) (e : Event) → BackIfRefused b (taken b e)
-unfolding startTaken secondTaken stopTaken
-taken-back b (PowerOn clock) = λ r h. absurd (accepted-not r h)
-taken-back b (ClockSetting clock new) = λ r h. absurd (accepted-not r h)
-taken-back b (WarmUp clock) = λ r h. absurd (accepted-not r h)
-taken-back b (Calibration clock outcome) = λ r h. absurd (accepted-not r h)
-taken-back b (Try clock outcome) = λ r h. absurd (accepted-not r h)
-taken-back b (AuthorityLock clock) = λ r h. absurd (accepted-not r h)
-taken-back b (AuthorityUnlock clock) = λ r h. absurd (accepted-not r h)
-taken-back b (Upload clock) = λ r h. absurd (accepted-not r h)
-taken-back b (Start clock settings p) =
-    start-back b (Start clock settings p) (startRuling (begin settings p .answer) (b .desk) clock) (automatic settings)
-    (begin settings p .test)
-taken-back b (Second clock readings) = second-back b (Second clock readings) (secondOf readings (b .desk .automatic))
-taken-back b (Stop clock cause) =
-    answered-back b (Stop clock cause) (stop (b .test) cause .answer) (stop (b .test) cause .test)
-
-ruled-back : (b : Bench) (e : Event) (x : Ruling) → BackIfRefused b (ruled x b e)
-ruled-back b e ruling.Taken = taken-back b e
-ruled-back b e (ruling.Refused y) = λ r h. refl
+  taken-back : (x : Carried) → BackIfRefused b (taken b e x)
+  unfolding startTaken secondTaken stopTaken
+  taken-back (carried.Service x) = λ r h. absurd (accepted-not r h)
+  taken-back (carried.Start settings p) =
+      start-back (startRuling (begin settings p .answer) (b .desk) (clockOf e)) (begin settings p .test)
+  taken-back (carried.Second readings) = second-back (secondOf readings (b .test .vehicle .automatic))
+  taken-back (carried.Stop cause) = answered-back (stop (b .test) cause .answer) (stop (b .test) cause .test)
 
 -- Of every bench, whether or not events lead to it.
 pub step-back : (b : Bench) (e : Event) → BackIfRefused b (step b e)
-unfolding step
-step-back b e = ruled-back b e (deskRuling (b .desk) e)
+unfolding step stepBy
+step-back b e =
+    on-pick (BackIfRefused b) _ _ _ (λ _ r h. refl)
+    (λ _. on-pick (BackIfRefused b) _ _ _ (λ _ r h. refl)
+    (λ _. on-pick (BackIfRefused b) _ _ _ (λ _ r h. refl) (λ _. taken-back b e (carriedBy e))))
 
 -- What the step of a bench carries.
-pub stepped : (b : Bench) (e : Event) (x : Handled) → x ≡ step b e → (x ≡ step b e) × BackIfRefused b x
-stepped b e x h = (h, subst⁻¹ (BackIfRefused b) h (step-back b e))
+pub stepped :
+    (b : Bench) (e : Event) (x : Contents) (r : Handled) →
+    x ≡ contentsOf e →
+    r ≡ stepBy b e x →
+    (r ≡ step b e) × BackIfRefused b r
+unfolding step
+stepped b e x r x′ h =
+    let same : r ≡ step b e = h ∙ ap (stepBy b e) x′ in
+    (same, subst⁻¹ (BackIfRefused b) same (step-back b e))
 
 -- A list in two parts, one after the other.
 pub after-append : (b : Bench) (es fs : List Event) → benchAfter b (es ++ fs) ≡ benchAfter (benchAfter b es) fs

@@ -6,8 +6,7 @@ use Rattle.loaded_test.specs.State.{noneRunning}
 use Rattle.locks.proofs.Kept.{locksOf}
 use Rattle.bench.specs.declared.Bench.{Bench}
 use Rattle.bench.specs.declared.Handled.{Handled}
-use Rattle.bench.specs.History.{History, runs}
-use Rattle.bench.specs.Causes.{automaticIn}
+use Rattle.bench.specs.History.{History}
 use Rattle.bench.specs.Telling.{Told}
 
 unfoldable pub testOr : Option Test → Test
@@ -16,14 +15,7 @@ testOr (some t) = t
 
 abbrev pub summary : ℕ → ℕ → History → Bench
 summary validity limit h = record {
-  desk = record {
-    validity = validity;
-    limit = limit;
-    clock = h .last;
-    locks = locksOf (h .events);
-    automatic = automaticIn (h .events);
-    running = runs (h .test);
-  };
+  desk = record { validity = validity; limit = limit; clock = h .last; locks = locksOf (h .events) };
   test = testOr (h .test);
 }
 

@@ -1,20 +1,20 @@
 -- One event: the bench's step on the summary of a history is the summary of what the history tells. Assumes nothing.
 use Prim.Native.Nat.{ℕ, _≤_, _<_}
 use native.Mathlib.Omega.{arith}
-use mathlib.Core.Bool.{Bool, true, false, true≢false, not, _&&_}
-use mathlib.Core.Path.{_≡_, refl, ap, sym, subst}
+use mathlib.Core.Bool.{Bool, true, false, true≢false, not, _&&_, _||_}
+use mathlib.Core.Path.{_≡_, refl, ap, sym, _∙_, subst}
 use mathlib.Core.List.{List, _∷_}
 use mathlib.Core.Option.{Option, none, some}
-use lib.Dec.{leb, eqb}
+use lib.Dec.{eqb}
 use lib.ListN.{drop}
-use borrow.Author.Tests.{ne-eqb}
+use borrow.Author.Tests.{eq-eqb, ne-eqb}
 use Rattle.refusal.specs.Choice.{pick}
 use Rattle.refusal.specs.Table.{settingUnfit, saturationUnfit, readingUnfit, startLocked}
 use Rattle.refusal.specs.declared.Refusal.{Refusal}
 use Rattle.reading.specs.declared.Readings.{Readings}
 use Rattle.reading.specs.declared.Converted.{Converted}
 use Rattle.reading.specs.declared.Converted.the-variants as converted
-use Rattle.reading.specs.Units.{secondOf, unfitCode}
+use Rattle.reading.specs.Units.{secondOf}
 use Rattle.reading.specs.Fitness.{leastUnfit, ToldBy}
 use Rattle.reading.proofs.Least.{least-refused}
 use Rattle.correction.specs.Humidity.{saturationFit}
@@ -31,46 +31,35 @@ use Rattle.loaded_test.specs.declared.Stepped.{Stepped}
 use Rattle.loaded_test.specs.Steps.{begin, begunBy, causeFit, second, stop}
 use Rattle.loaded_test.specs.Going.{isRunning, Goes}
 use Rattle.loaded_test.proofs.Going.{second-goes, stop-goes, stop-refused}
-use Rattle.bench.specs.declared.Bench.{Bench}
+use Rattle.loaded_test.proofs.Passing.{stands}
 use Rattle.bench.specs.declared.Handled.{Handled}
 use Rattle.bench.specs.declared.Answer.the-variants as answer
 use Rattle.locks.specs.declared.Event.{Event}
-use Rattle.locks.specs.declared.Event.the-variants.{PowerOn, ClockSetting, WarmUp, Calibration, Try, AuthorityLock, AuthorityUnlock, Upload, Start, Second, Stop}
-use Rattle.locks.specs.Events.{kindOf}
-use Rattle.locks.specs.Accepted.{Accepted, accepted, orElse, latestOf}
+use Rattle.locks.specs.declared.Event.the-variants.{Start, Second, Stop}
+use Rattle.locks.specs.Events.{kindOf, carriedBy}
+use Rattle.locks.specs.Accepted.{Accepted, accepted}
 use Rattle.locks.specs.Locks.{lockOf, unsentIn}
 use Rattle.locks.specs.State.{locksAfter, verdictCounted}
-use Rattle.locks.proofs.Kept.{locksOf, locks-after, second-counted, stop-counted, lock-number}
+use Rattle.locks.proofs.Sorts.{Serves, Sort, serves, starts, measures, stops, sort-of}
+use Rattle.locks.proofs.Kept.{locksOf, locks-after, verdict-counted, lock-number}
 use Rattle.bench.specs.History.{History, runs}
-use Rattle.bench.specs.Causes.{outsideTest, insideTest, settingAt, saturationBad, causeBad, automaticOf, automaticIn, readingAt, lockAt, causes, firstCause}
-use Rattle.bench.specs.Telling.{secondInput, verdictNext, verdictTold, leaves, endedBy, stepTaken, acceptance, added, judged, tell}
+use Rattle.bench.specs.Causes.{outsideTest, insideTest, settingAt, saturationBad, causeBad, automaticIn, readingAt, free, lockAt, causes, firstCause}
+use Rattle.bench.specs.Telling.{secondInput, verdictNext, verdictTold, leaves, endedBy, stepTaken, leftBy, outcomeWith, outcomeOf, acceptance, added, judged, tell}
+use Rattle.bench.specs.Running.{inputsSince}
 use Rattle.bench.specs.declared.Ruling.the-variants as ruling
-use Rattle.bench.specs.Stepping.{refused, withTest, withNone, plainTaken, firstRefusal, fitness, lockRuling, startJudged, startTaken, judgedWith, followed, answered, secondTaken, stopTaken, taken, deskRuling, ruled, step}
+use Rattle.bench.specs.Stepping.{refused, withTest, firstRefusal, fitness, lockRuling, startJudged, startTaken, judgedWith, followed, answered, secondJudged, secondTaken, stopTaken, taken, running, stepBy, step}
 use Rattle.bench.proofs.Summary.{testOr, summary, summarised}
-use Rattle.bench.proofs.Sound.{Sound, Runs}
+use Rattle.bench.proofs.Sound.{Sound, Runs, Follows}
 
--- A choice under a map on each side.
+-- A choice, and a choice under a map.
 chosen :
-    {A B C : Type 0} (g : C → B) (f : A → B) (c : Bool) (x y : A) (u v : C) →
-    (c ≡ true → g u ≡ f x) →
-    (c ≡ false → g v ≡ f y) →
-    g (pick c u v) ≡ f (pick c x y)
+    {A B : Type 0} (f : A → B) (c : Bool) (x y : A) (u v : B) →
+    (c ≡ true → u ≡ f x) →
+    (c ≡ false → v ≡ f y) →
+    pick c u v ≡ f (pick c x y)
 unfolding pick
-chosen g f true x y u v p q = p refl
-chosen g f false x y u v p q = q refl
-
--- A reading that is refused is refused 8 with its code.
-abbrev pub Coded : Converted → Type 0
-Coded (converted.Fit s) = Unit {0}
-Coded (converted.Refused r) = (r ≡ readingUnfit (r .place)) × (eqb (r .place) 0 ≡ false)
-
-told-coded : (n : ℕ) (x : Converted) → ToldBy n x → Coded x
-unfolding ToldBy
-told-coded n (converted.Fit s) h = tt
-told-coded n (converted.Refused r) h = rw (h .0) (refl, ne-eqb n 0 (λ e. omega arith))
-
-pub coded : (r : Readings) (automatic : Bool) → Coded (secondOf r automatic)
-coded r automatic = told-coded (leastUnfit automatic r) _ (least-refused r automatic)
+chosen f true x y u v p q = p refl
+chosen f false x y u v p q = q refl
 
 -- A start of unfit settings or p is refused 4 or 5; any other begins.
 begin-answer :
@@ -92,6 +81,22 @@ begin-answer s p = go (eqb (unfitPlace s) 0) (saturationFit p)
     go true false = refl
     go false b = refl
 
+-- What an event brings that is no start, second or stop.
+pub served : (h : History) (e : Event) → Serves e → outcomeOf h e ≡ leaves (leftBy (kindOf e) (h .test))
+served h e s = ap (outcomeWith h e) (s .carries)
+
+-- It leaves no test, where 12 does not stand.
+pub none-left :
+    (o : Option Test) (one inside : Bool) →
+    inside ≡ false →
+    runs o && not (one || inside) ≡ false →
+    pick one none o ≡ none
+unfolding runs pick
+none-left o true inside i h = refl
+none-left none false inside i h = refl
+none-left (some t) false false i h = absurd (true≢false h)
+none-left (some t) false true i h = absurd (true≢false i)
+
 module _ (validity limit : ℕ) (l : List Accepted) (last : ℕ) where
   abbrev at : Option Test → History
   at o = record { events = l; last = last; test = o }
@@ -99,43 +104,14 @@ module _ (validity limit : ℕ) (l : List Accepted) (last : ℕ) where
   -- What is to be shown of an event that 11, 12 and 13 do not refuse.
   abbrev Tied : Option Test → Event → Type 0
   Tied o e =
-      taken (summary validity limit (at o)) e
+      taken (summary validity limit (at o)) e (carriedBy e)
       ≡ summarised validity limit (judged (firstCause (drop 3 (causes validity limit (at o) e))) (at o) e)
 
-  plain :
-      (o : Option Test) (e : Event) →
-      plainTaken (summary validity limit (at o) .desk) e
-      ≡ record {
-        answer = answer.Accepted;
-        bench = withNone (summary validity limit (at o) .desk) e (locksOf (accepted e none ∷ l));
-      }
-  plain o e =
-      ap
-      (λ k. record { answer = answer.Accepted; bench = withNone (summary validity limit (at o) .desk) e k })
-      (sym (locks-after e l))
-
-  -- Kinds 1 to 8.
-  plain-tied :
-      (o : Option Test) (e : Event) → leb (kindOf e) 8 ≡ true → runs o && outsideTest (kindOf e) ≡ false → Tied o e
-  unfolding causes firstCause settingAt saturationBad causeBad readingAt lockAt pick judged added acceptance runs testOr latestOf orElse
-  plain-tied o (PowerOn clock) k h = plain o (PowerOn clock)
-  plain-tied none (ClockSetting clock new) k h = plain none (ClockSetting clock new)
-  plain-tied (some t) (ClockSetting clock new) k h = absurd (true≢false h)
-  plain-tied none (WarmUp clock) k h = plain none (WarmUp clock)
-  plain-tied (some t) (WarmUp clock) k h = absurd (true≢false h)
-  plain-tied none (Calibration clock outcome) k h = plain none (Calibration clock outcome)
-  plain-tied (some t) (Calibration clock outcome) k h = absurd (true≢false h)
-  plain-tied none (Try clock outcome) k h = plain none (Try clock outcome)
-  plain-tied (some t) (Try clock outcome) k h = absurd (true≢false h)
-  plain-tied none (AuthorityLock clock) k h = plain none (AuthorityLock clock)
-  plain-tied (some t) (AuthorityLock clock) k h = absurd (true≢false h)
-  plain-tied none (AuthorityUnlock clock) k h = plain none (AuthorityUnlock clock)
-  plain-tied (some t) (AuthorityUnlock clock) k h = absurd (true≢false h)
-  plain-tied none (Upload clock) k h = plain none (Upload clock)
-  plain-tied (some t) (Upload clock) k h = absurd (true≢false h)
-  plain-tied o (Start clock settings p) k h = absurd (true≢false (sym k))
-  plain-tied o (Second clock readings) k h = absurd (true≢false (sym k))
-  plain-tied o (Stop clock cause) k h = absurd (true≢false (sym k))
+  plain-tied : (o : Option Test) (e : Event) → Serves e → runs o && outsideTest (kindOf e) ≡ false → Tied o e
+  unfolding causes firstCause settingAt saturationBad causeBad readingAt lockAt pick judged added acceptance leftBy testOr
+  plain-tied o e s h =
+      rw
+      (s .carries, served (at o) e s, none-left o (eqb (kindOf e) 1) (insideTest (kindOf e)) (s .notInside) h, locks-after e l)
 
   -- A start where no test runs, judged by whether its settings, its p and the locks admit it.
   start-ruled :
@@ -147,14 +123,14 @@ module _ (validity limit : ℕ) (l : List Accepted) (last : ℕ) where
       (pick b test-start.Begins (test-start.Refused (saturationUnfit 0)))
       (test-start.Refused (settingUnfit (unfitPlace settings)))))
       (pick c ruling.Taken (ruling.Refused (startLocked n))))
-      (summary validity limit (at none)) (Start clock settings p) (eqb (settings .gearbox) 2) (begin settings p .test)
+      (summary validity limit (at none)) (Start clock settings p) (begin settings p .test)
       ≡ summarised validity limit
       (judged
       (pick (not a) (some (settingUnfit (unfitPlace settings)))
       (pick (not b) (some (saturationUnfit 0))
       (pick (not c) (some (startLocked n)) none)))
       (at none) (Start clock settings p))
-  unfolding pick judged added acceptance runs testOr latestOf orElse automaticOf
+  unfolding pick judged added acceptance testOr
   start-ruled clock settings p n true true true = rw (locks-after (Start clock settings p) l)
   start-ruled clock settings p n true true false = refl
   start-ruled clock settings p n true false c = refl
@@ -165,7 +141,7 @@ module _ (validity limit : ℕ) (l : List Accepted) (last : ℕ) where
   start-tied clock settings p =
       rw (begin-answer settings p, lock-number validity limit clock l)
       (start-ruled clock settings p (lockOf validity limit clock l)
-      (eqb (unfitPlace settings) 0) (saturationFit p) (eqb (lockOf validity limit clock l) 0))
+      (eqb (unfitPlace settings) 0) (saturationFit p) (free (lockOf validity limit clock l)))
 
   -- A second or a stop that the running test took, told with what comes next.
   abbrev Next-tied : Event → Next → Test → Test → Type 0
@@ -175,76 +151,95 @@ module _ (validity limit : ℕ) (l : List Accepted) (last : ℕ) where
 
   goes-tied :
       (e : Event) (t t′ : Test) →
-      automaticIn (accepted e none ∷ l) ≡ automaticIn l →
-      record { answer = answer.Accepted; bench = withTest (summary validity limit (at (some t)) .desk) e (automaticIn l) t′ }
+      record { answer = answer.Accepted; bench = withTest (summary validity limit (at (some t)) .desk) e t′ }
       ≡ summarised validity limit (added (at (some t)) e (leaves (some t′)))
-  unfolding added acceptance runs testOr
-  goes-tied e t t′ a = rw (locks-after e l, a)
+  unfolding added acceptance testOr
+  goes-tied e t t′ = rw (locks-after e l)
 
   ends-tied :
       (e : Event) (t : Test) (x : Verdict) →
-      automaticIn (accepted e (some x) ∷ l) ≡ automaticIn l →
       locksOf (accepted e (some x) ∷ l) ≡ verdictCounted (locksAfter (locksOf l) e) →
       judgedWith (summary validity limit (at (some t)) .desk) e x
       ≡ summarised validity limit (added (at (some t)) e (record { verdict = some x; test = none }))
-  unfolding added acceptance runs testOr
-  ends-tied e t x a j = rw (j, a)
+  unfolding added acceptance testOr
+  ends-tied e t x j = rw j
 
   next-tied :
       (e : Event) (next : Next) (t t′ : Test) →
-      ((v : Option Verdict) → automaticIn (accepted e v ∷ l) ≡ automaticIn l) →
       ((x : Verdict) → locksOf (accepted e (some x) ∷ l) ≡ verdictCounted (locksAfter (locksOf l) e)) →
       Next-tied e next t t′
   unfolding endedBy verdictNext
-  next-tied e GoesOn t t′ a j = goes-tied e t t′ (a none)
-  next-tied e Rests t t′ a j = goes-tied e t t′ (a none)
-  next-tied e RestEnded t t′ a j = goes-tied e t t′ (a none)
-  next-tied e ModeTwo t t′ a j = goes-tied e t t′ (a none)
-  next-tied e (Ends x) t t′ a j = ends-tied e t x (a (some x)) (j x)
+  next-tied e GoesOn t t′ j = goes-tied e t t′
+  next-tied e Rests t t′ j = goes-tied e t t′
+  next-tied e RestEnded t t′ j = goes-tied e t t′
+  next-tied e ModeTwo t t′ j = goes-tied e t t′
+  next-tied e (Ends x) t t′ j = ends-tied e t x (j x)
 
   -- What the test tells is what the bench and the history go by.
   told-tied :
       (e : Event) (t : Test) (x : Stepped) →
       Goes x →
-      ((v : Option Verdict) → automaticIn (accepted e v ∷ l) ≡ automaticIn l) →
       ((y : Verdict) → locksOf (accepted e (some y) ∷ l) ≡ verdictCounted (locksAfter (locksOf l) e)) →
       answered (x .answer) (summary validity limit (at (some t))) e (x .test)
       ≡ summarised validity limit (added (at (some t)) e (endedBy (verdictTold (x .answer)) (x .test)))
   unfolding verdictTold
-  told-tied e t x g a j = rw (g .told) (next-tied e (g .next) t (x .test) a j)
+  told-tied e t x g j = rw (g .told) (next-tied e (g .next) t (x .test) j)
 
   second-tied :
       (clock : ℕ) (readings : Readings) (t : Test) →
       isRunning (t .progress .stage) ≡ true →
+      t .vehicle .automatic ≡ automaticIn l →
       unsentIn l < 65535 →
       Tied (some t) (Second clock readings)
-  unfolding causes firstCause settingAt saturationBad causeBad readingAt unfitCode lockAt runs testOr secondTaken secondInput stepTaken judged pick latestOf orElse
-  second-tied clock readings t live room = go (secondOf readings (automaticIn l)) refl (coded readings (automaticIn l))
+  unfolding causes firstCause settingAt saturationBad causeBad readingAt lockAt testOr secondTaken secondInput stepTaken judged pick ToldBy
+  second-tied clock readings t live gearbox room =
+      ap (λ b. secondJudged (secondOf readings b) (summary validity limit (at (some t))) (Second clock readings)) gearbox ∙
+      go (secondOf readings (automaticIn l)) refl (least-refused readings (automaticIn l))
     where
-      go : (x : Converted) → secondOf readings (automaticIn l) ≡ x → Coded (secondOf readings (automaticIn l)) → Tied (some t) (Second clock readings)
+      n : ℕ
+      n = leastUnfit (automaticIn l) readings
+
+      go :
+          (x : Converted) →
+          secondOf readings (automaticIn l) ≡ x →
+          ToldBy n (secondOf readings (automaticIn l)) →
+          secondJudged (secondOf readings (automaticIn l)) (summary validity limit (at (some t))) (Second clock readings)
+          ≡ summarised validity limit
+          (judged (pick (not (eqb n 0)) (some (readingUnfit n)) none) (at (some t)) (Second clock readings))
       go (converted.Fit s) e c =
-          rw (e, e) (told-tied (Second clock readings) t (second t s) (second-goes t s live) (λ _. refl) (λ x. second-counted clock readings x l room))
+          let z : n ≡ 0 = subst (ToldBy n) e c in
+          rw (eq-eqb n 0 z, e)
+          (told-tied (Second clock readings) t (second t s) (second-goes t s live) (λ x. verdict-counted (Second clock readings) x l refl room))
       go (converted.Refused r) e c =
-          let d : Coded (converted.Refused r) = subst Coded e c in
-          rw (e, d .1) (ap (λ x. refused x (summary validity limit (at (some t)))) (d .0))
+          let d : ToldBy n (converted.Refused r) = subst (ToldBy n) e c in
+          rw (ne-eqb n 0 (λ z. omega (arith, d .1, z)), e) (ap (λ x. refused x (summary validity limit (at (some t)))) (d .0))
 
   stop-tied :
       (clock cause : ℕ) (t : Test) →
       isRunning (t .progress .stage) ≡ true →
       unsentIn l < 65535 →
       Tied (some t) (Stop clock cause)
-  unfolding causes firstCause settingAt saturationBad causeBad readingAt lockAt runs testOr stopTaken stepTaken judged pick latestOf orElse
+  unfolding causes firstCause settingAt saturationBad causeBad readingAt lockAt testOr stopTaken stepTaken judged pick
   stop-tied clock cause t live room = go (causeFit cause) refl
     where
       go : (b : Bool) → causeFit cause ≡ b → Tied (some t) (Stop clock cause)
       go true e =
           rw e
-          (told-tied (Stop clock cause) t (stop t cause) (stop-goes t cause e live) (λ _. refl) (λ x. stop-counted clock cause x l room))
+          (told-tied (Stop clock cause) t (stop t cause) (stop-goes t cause e live) (λ x. verdict-counted (Stop clock cause) x l refl room))
       go false e = rw (e, stop-refused t cause e live)
+
+  -- A running test has the gearbox of the latest start.
+  gearbox-of : (t : Test) → Follows l t → t .vehicle .automatic ≡ automaticIn l
+  unfolding vehicleOf
+  gearbox-of t f =
+      ap (λ y. y .vehicle .automatic) (f .replayed) ∙
+      ap (λ v. v .automatic) (stands (vehicleOf (f .settings) (f .saturation)) (inputsSince l) .vehicle) ∙
+      sym (f .gearbox)
 
   -- An event that 11, 12 and 13 do not refuse.
   taken-tied :
       (o : Option Test) (e : Event) →
+      Sort e →
       unsentIn l ≤ limit →
       limit ≤ 255 →
       Runs limit l o →
@@ -252,20 +247,20 @@ module _ (validity limit : ℕ) (l : List Accepted) (last : ℕ) where
       not (runs o) && insideTest (kindOf e) ≡ false →
       Tied o e
   unfolding runs
-  taken-tied o (PowerOn clock) u f r h k = plain-tied o (PowerOn clock) refl h
-  taken-tied o (ClockSetting clock new) u f r h k = plain-tied o (ClockSetting clock new) refl h
-  taken-tied o (WarmUp clock) u f r h k = plain-tied o (WarmUp clock) refl h
-  taken-tied o (Calibration clock outcome) u f r h k = plain-tied o (Calibration clock outcome) refl h
-  taken-tied o (Try clock outcome) u f r h k = plain-tied o (Try clock outcome) refl h
-  taken-tied o (AuthorityLock clock) u f r h k = plain-tied o (AuthorityLock clock) refl h
-  taken-tied o (AuthorityUnlock clock) u f r h k = plain-tied o (AuthorityUnlock clock) refl h
-  taken-tied o (Upload clock) u f r h k = plain-tied o (Upload clock) refl h
-  taken-tied none (Start clock settings p) u f r h k = start-tied clock settings p
-  taken-tied (some t) (Start clock settings p) u f r h k = absurd (true≢false h)
-  taken-tied none (Second clock readings) u f r h k = absurd (true≢false k)
-  taken-tied (some t) (Second clock readings) u f r h k = second-tied clock readings t (r .0) (omega arith)
-  taken-tied none (Stop clock cause) u f r h k = absurd (true≢false k)
-  taken-tied (some t) (Stop clock cause) u f r h k = stop-tied clock cause t (r .0) (omega arith)
+  taken-tied o e (serves _ s) u f r h k = plain-tied o e s h
+  taken-tied none (Start _ _ _) (starts clock settings p) u f r h k = start-tied clock settings p
+  taken-tied (some t) (Start _ _ _) (starts clock settings p) u f r h k = absurd (true≢false h)
+  taken-tied none (Second _ _) (measures clock readings) u f r h k = absurd (true≢false k)
+  taken-tied (some t) (Second _ _) (measures clock readings) u f r h k =
+      second-tied clock readings t (r .0) (gearbox-of t (r .2)) (omega arith)
+  taken-tied none (Stop _ _) (stops clock cause) u f r h k = absurd (true≢false k)
+  taken-tied (some t) (Stop _ _) (stops clock cause) u f r h k = stop-tied clock cause t (r .0) (omega arith)
+
+  -- The bench's test runs where the history has one.
+  running-same : (o : Option Test) → Runs limit l o → running (summary validity limit (at o)) ≡ runs o
+  unfolding runs testOr isRunning
+  running-same none r = refl
+  running-same (some t) r = r .0
 
 -- The bench's step on a history's summary is the summary of what the history tells.
 pub tied :
@@ -273,18 +268,16 @@ pub tied :
     limit ≤ 255 →
     Sound limit h →
     step (summary validity limit h) e ≡ summarised validity limit (tell validity limit h e)
-unfolding step deskRuling tell causes firstCause judged
+unfolding step stepBy tell causes firstCause judged
 tied validity limit h e fit sound =
-    chosen (λ x. ruled x b e) f _ _ _ _ _
+    rw (running-same validity limit (h .events) (h .last) (h .test) (sound .test))
+    (chosen f _ _ _ _ _
     (λ _. refl)
-    (λ _. chosen (λ x. ruled x b e) f _ _ _ _ _
+    (λ _. chosen f _ _ _ _ _
     (λ _. refl)
-    (λ p. chosen (λ x. ruled x b e) f _ _ _ _ _
+    (λ p. chosen f _ _ _ _ _
     (λ _. refl)
-    (λ q. taken-tied validity limit (h .events) (h .last) (h .test) e (sound .unsent) fit (sound .test) p q)))
+    (λ q. taken-tied validity limit (h .events) (h .last) (h .test) e (sort-of e) (sound .unsent) fit (sound .test) p q))))
   where
-    b : Bench
-    b = summary validity limit h
-
     f : Option Refusal → Handled
     f o = summarised validity limit (judged o h e)

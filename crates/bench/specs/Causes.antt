@@ -1,15 +1,15 @@
 -- The rows of document 01's refusal table that can refuse an event, in their order: "Events: 11, 12 or 13, then 4, 5, 15 or 8, then 14."
 -- They judge by V, U and the history alone.
 use Prim.Native.Nat.{ℕ}
-use mathlib.Core.Bool.{Bool, false, not, _&&_}
+use mathlib.Core.Bool.{Bool, false, not, _&&_, _||_}
 use mathlib.Core.List.{List, [], _∷_}
 use mathlib.Core.Option.{Option, none, some}
-use lib.Dec.{ltb, leb, eqb}
+use lib.Dec.{ltb, eqb}
 use Rattle.refusal.specs.Choice.{pick}
 use Rattle.refusal.specs.Table.{clockEarlier, testRunning, noTest, settingUnfit, saturationUnfit, causeUnfit, readingUnfit, startLocked}
 use Rattle.refusal.specs.declared.Refusal.{Refusal}
 use Rattle.reading.specs.declared.Readings.{Readings}
-use Rattle.reading.specs.Units.{secondOf, unfitCode}
+use Rattle.reading.specs.Fitness.{leastUnfit}
 use Rattle.correction.specs.Humidity.{saturationFit}
 use Rattle.vehicle.specs.Settings.{automatic, unfitPlace}
 use Rattle.loaded_test.specs.Steps.{causeFit}
@@ -32,13 +32,13 @@ cause stands refusal = record { stands = stands; refusal = refusal }
 abbrev pub causeAt : ℕ → (ℕ → Refusal) → Cause
 causeAt place row = cause (not (eqb place 0)) (row place)
 
--- "test running (all but power-on, second, stop)"
-abbrev pub outsideTest : ℕ → Bool
-outsideTest kind = leb 2 kind && leb kind 9
-
 -- "second or stop"
 abbrev pub insideTest : ℕ → Bool
-insideTest kind = leb 10 kind
+insideTest kind = eqb kind 10 || eqb kind 11
+
+-- "test running (all but power-on, second, stop)"
+abbrev pub outsideTest : ℕ → Bool
+outsideTest kind = not (eqb kind 1 || insideTest kind)
 
 -- "setting out of range": the first unfit setting of a start, 1 to 7; 0 where there is none.
 unfoldable pub settingAt : Option Starting → ℕ
@@ -64,15 +64,23 @@ automaticOf (some s) = automatic (s .settings)
 abbrev pub automaticIn : List Accepted → Bool
 automaticIn l = automaticOf (latestOf startIn l)
 
--- The lowest unfit code of a second's readings, or 0: "reading unfit .. code in an event".
+-- "reading unfit .. code in an event": the least code whose reading is unfit by that code's own fitness; 0 where there is none.
 unfoldable pub readingAt : Bool → Option Readings → ℕ
 readingAt automatic none = 0
-readingAt automatic (some r) = unfitCode (secondOf r automatic)
+readingAt automatic (some r) = leastUnfit automatic r
+
+-- No lock stands: the number of the first is 0.
+abbrev pub free : ℕ → Bool
+free lock = eqb lock 0
 
 -- "start locked": the number of the first standing lock; 0 where there is none.
 unfoldable pub lockAt : ℕ → ℕ → ℕ → List Accepted → Option Starting → ℕ
 lockAt validity limit now l none = 0
 lockAt validity limit now l (some s) = lockOf validity limit now l
+
+-- A start's row, by that number.
+abbrev pub locked : ℕ → Cause
+locked lock = cause (not (free lock)) (startLocked lock)
 
 -- The table's rows for an event after a history.
 unfoldable pub causes : ℕ → ℕ → History → Event → List Cause
@@ -84,7 +92,7 @@ causes validity limit h e =
     ∷ cause (saturationBad (startIn e)) (saturationUnfit 0)
     ∷ cause (causeBad (causeIn e)) causeUnfit
     ∷ causeAt (readingAt (automaticIn (h .events)) (readingsIn e)) readingUnfit
-    ∷ causeAt (lockAt validity limit (clockOf e) (h .events) (startIn e)) startLocked
+    ∷ locked (lockAt validity limit (clockOf e) (h .events) (startIn e))
     ∷ []
 
 -- What the first standing cause returns.

@@ -10,6 +10,7 @@ use Rattle.refusal.specs.declared.Refusal.{Refusal}
 use Rattle.locks.specs.declared.Event.{Event}
 use Rattle.locks.specs.Events.{clockOf, clockAfter}
 use Rattle.locks.specs.Accepted.{Accepted}
+use Rattle.locks.specs.Claims.{StandsExactly}
 use Rattle.locks.specs.Locks.{notWarm, inactive, notCalibrated, notSignedIn, passwordLock, authorityLock, unsentLock}
 use Rattle.bench.specs.declared.Answer.the-variants.{Refused}
 use Rattle.bench.specs.declared.Bench.{Bench}
@@ -60,6 +61,8 @@ pub record Laws (validity limit : ℕ) : Type 0 where
       (es : List Event) (e : Event) (n : ℕ) →
       answerAfter validity limit es e ≡ Refused (startLocked n) →
       LeastLock validity limit (clockOf e) (historyOf validity limit es .events) n
+  -- when each of the seven locks stands, in plain words
+  pub locks : (now : ℕ) (l : List Accepted) → StandsExactly validity limit now l
   -- 11 is answered exactly when the event's clock is below the last one, whatever its kind
   pub clock :
       (es : List Event) (e : Event) (n : ℕ) →

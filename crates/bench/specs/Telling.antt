@@ -3,6 +3,8 @@ use Prim.Native.Nat.{ℕ}
 use mathlib.Core.Bool.{Bool}
 use mathlib.Core.List.{List, [], _∷_}
 use mathlib.Core.Option.{Option, none, some}
+use lib.Dec.{eqb}
+use Rattle.refusal.specs.Choice.{pick}
 use Rattle.refusal.specs.declared.Refusal.{Refusal}
 use Rattle.reading.specs.declared.Converted.{Converted}
 use Rattle.reading.specs.declared.Converted.the-variants as converted
@@ -18,8 +20,9 @@ use Rattle.loaded_test.specs.Log.{Input, aSecond, aStop, step}
 use Rattle.bench.specs.declared.Answer.{Answer}
 use Rattle.bench.specs.declared.Answer.the-variants as answer
 use Rattle.locks.specs.declared.Event.{Event}
-use Rattle.locks.specs.declared.Event.the-variants.{PowerOn, ClockSetting, WarmUp, Calibration, Try, AuthorityLock, AuthorityUnlock, Upload, Start, Second, Stop}
-use Rattle.locks.specs.Events.{clockAfter}
+use Rattle.locks.specs.declared.Carried.{Carried}
+use Rattle.locks.specs.declared.Carried.the-variants as carried
+use Rattle.locks.specs.Events.{kindOf, carriedBy, clockAfter}
 use Rattle.locks.specs.Accepted.{accepted}
 use Rattle.bench.specs.History.{History}
 use Rattle.bench.specs.Causes.{automaticIn, causes, firstCause}
@@ -29,19 +32,16 @@ unfoldable pub secondInput : Converted → Option Input
 secondInput (converted.Fit s) = some (aSecond s)
 secondInput (converted.Refused r) = none
 
--- What an event gives the test: the units of a second, the cause of a stop, or nothing.
+-- What is given to the test: the units of a second, the cause of a stop, or nothing.
+abbrev pub inputWith : Bool → Carried → Option Input
+inputWith automatic (carried.Service x) = none
+inputWith automatic (carried.Start settings p) = none
+inputWith automatic (carried.Second readings) = secondInput (secondOf readings automatic)
+inputWith automatic (carried.Stop cause) = some (aStop cause)
+
+-- What an event gives the test.
 abbrev pub inputOf : Bool → Event → Option Input
-inputOf automatic (PowerOn clock) = none
-inputOf automatic (ClockSetting clock new) = none
-inputOf automatic (WarmUp clock) = none
-inputOf automatic (Calibration clock outcome) = none
-inputOf automatic (Try clock outcome) = none
-inputOf automatic (AuthorityLock clock) = none
-inputOf automatic (AuthorityUnlock clock) = none
-inputOf automatic (Upload clock) = none
-inputOf automatic (Start clock settings p) = none
-inputOf automatic (Second clock readings) = secondInput (secondOf readings automatic)
-inputOf automatic (Stop clock cause) = some (aStop cause)
+inputOf automatic e = inputWith automatic (carriedBy e)
 
 -- The verdict that a step tells, if it tells one.
 unfoldable pub verdictNext : Next → Option Verdict
@@ -76,19 +76,20 @@ stepTaken none i = leaves none
 stepTaken (some t) none = leaves (some t)
 stepTaken (some t) (some i) = endedBy (verdictTold (step t i .answer)) (step t i .test)
 
+-- "power-on leaves none"
+unfoldable pub leftBy : ℕ → Option Test → Option Test
+leftBy kind test = pick (eqb kind 1) none test
+
 -- "An accepted (admitted) start begins a test, seconds and stops take the steps, a verdict or power-on leaves none."
+abbrev pub outcomeWith : History → Event → Carried → Outcome
+outcomeWith h e (carried.Service x) = leaves (leftBy (kindOf e) (h .test))
+outcomeWith h e (carried.Start settings p) = leaves (some (begin settings p .test))
+outcomeWith h e (carried.Second readings) = stepTaken (h .test) (inputOf (automaticIn (h .events)) e)
+outcomeWith h e (carried.Stop cause) = stepTaken (h .test) (inputOf (automaticIn (h .events)) e)
+
+-- What an accepted event brings.
 abbrev pub outcomeOf : History → Event → Outcome
-outcomeOf h (PowerOn clock) = leaves none
-outcomeOf h (ClockSetting clock new) = leaves (h .test)
-outcomeOf h (WarmUp clock) = leaves (h .test)
-outcomeOf h (Calibration clock outcome) = leaves (h .test)
-outcomeOf h (Try clock outcome) = leaves (h .test)
-outcomeOf h (AuthorityLock clock) = leaves (h .test)
-outcomeOf h (AuthorityUnlock clock) = leaves (h .test)
-outcomeOf h (Upload clock) = leaves (h .test)
-outcomeOf h (Start clock settings p) = leaves (some (begin settings p .test))
-outcomeOf h (Second clock readings) = stepTaken (h .test) (inputOf (automaticIn (h .events)) (Second clock readings))
-outcomeOf h (Stop clock cause) = stepTaken (h .test) (inputOf (automaticIn (h .events)) (Stop clock cause))
+outcomeOf h e = outcomeWith h e (carriedBy e)
 
 -- What the history answers, and the history after it.
 pub record Told : Type 0 where

@@ -2,14 +2,15 @@
 // Exported: open, which gives a fresh bench or refuses V or U, and step, which takes one event and answers it; Event and its outcomes.
 // specs/History.antt, Causes.antt and Telling.antt are the plain history; specs/Demand.antt is demand 3, which open carries.
 ghost use mathlib.Core.Path.{_≡_};
-ghost use Rattle.bench.specs.Stepping.{deskRuling, freshBench, step};
+ghost use Rattle.bench.specs.Causes.{insideTest, outsideTest};
+ghost use Rattle.bench.specs.Stepping.{freshBench, step};
 ghost use Rattle.bench.specs.Claims.{Opens};
 ghost use Rattle.bench.specs.Laws.{BackIfRefused};
-ghost use Rattle.refusal.specs.Table.{refusal};
 
 mod taking;
 
-use crate::taking::ruled;
+use crate::taking::refused;
+use crate::taking::taken;
 use loaded_test::Test;
 use loaded_test::Verdict;
 pub use locks::Calibration;
@@ -25,15 +26,12 @@ pub enum Answer {
     Refused(Refusal),
 }
 
-// What a bench keeps beside its test: document 01's V in seconds and U, the last clock, what the locks are read from, the gearbox of the
-// latest start, and whether a test runs.
+// What a bench keeps beside its test: document 01's V in seconds and U, the last clock, and what the locks are read from.
 pub struct Desk {
     validity: u32,
     limit: u16,
     clock: u32,
     locks: Locks,
-    automatic: bool,
-    running: bool,
 }
 
 // The state of one bench. test is the one that runs, where one does.
@@ -58,11 +56,26 @@ pub struct Opened {
     pub bench: Bench,
 }
 
-// Whether rows of the table refuse an event.
+// Whether a row of the table refuses a start.
 pub(crate) enum Ruling {
     Taken,
     Refused(Refusal),
 }
+
+const TEST_RUNNING: Refusal = Refusal {
+    number: refusal::TEST_RUNNING,
+    place: 0,
+};
+
+const NO_TEST: Refusal = Refusal {
+    number: refusal::NO_TEST,
+    place: 0,
+};
+
+const PARAMETER_UNFIT: Refusal = Refusal {
+    number: refusal::CAUSE_UNFIT,
+    place: 0,
+};
 
 fn fresh_bench(validity: u32, limit: u16) -> Bench
     ensures { λ r. ⌜ r ≡ freshBench validity limit ⌝ }
@@ -73,8 +86,6 @@ fn fresh_bench(validity: u32, limit: u16) -> Bench
             limit,
             clock: 0,
             locks: locks::fresh_locks(),
-            automatic: false,
-            running: false,
         },
         test: loaded_test::none_running(),
     }
@@ -92,35 +103,23 @@ pub fn open(validity: u32, limit: u16) -> Opened
         };
     }
     Opened {
-        answer: Opening::Refused(Refusal {
-            number: 15,
-            place: 0,
-        }),
+        answer: Opening::Refused(PARAMETER_UNFIT),
         bench: fresh_bench(1, 0),
     }
 }
 
-fn refused_by(number: u8, place: usize) -> Ruling
-    ensures { λ r. ⌜ r ≡ Ruling.Refused (refusal number place) ⌝ }
+// "second or stop"
+fn inside_test(kind: u8) -> bool
+    ensures { λ r. ⌜ r ≡ insideTest kind ⌝ }
 {
-    Ruling::Refused(Refusal { number, place })
+    (kind == 10) | (kind == 11)
 }
 
-// 11, then 12 or 13.
-fn desk_ruling(desk: Desk, event: Event) -> Ruling
-    ensures { λ r. ⌜ r ≡ deskRuling desk event ⌝ }
+// "all but power-on, second, stop"
+fn outside_test(kind: u8) -> bool
+    ensures { λ r. ⌜ r ≡ outsideTest kind ⌝ }
 {
-    if locks::clock_of(event) < desk.clock {
-        return refused_by(11, desk.clock as usize);
-    }
-    let kind = locks::kind_of(event);
-    if desk.running & ((2 <= kind) & (kind <= 9)) {
-        return refused_by(12, 0);
-    }
-    if !desk.running & (10 <= kind) {
-        return refused_by(13, 0);
-    }
-    Ruling::Taken
+    !((kind == 1) | inside_test(kind))
 }
 
 // One event: its answer and the next bench. 11, 12 or 13, then 4, 5, 15 or 8, then 14; a refused event gives back the same bench.
@@ -128,6 +127,28 @@ fn desk_ruling(desk: Desk, event: Event) -> Ruling
 pub fn step(bench: Bench, event: Event) -> Handled
     ensures { λ r. ⌜ (r ≡ step bench event) × BackIfRefused bench r ⌝ }
 {
-    let desk = bench.desk;
-    ruled(desk_ruling(desk, event), bench, event)
+    let test = bench.test;
+    let contents = locks::contents_of(event);
+    let kind = contents.kind;
+    let clock = contents.clock;
+    let last = bench.desk.clock;
+    let place = last as usize;
+    let running = loaded_test::is_running(test);
+    if clock < last {
+        return refused(
+            Refusal {
+                number: refusal::CLOCK_EARLIER,
+                place,
+            },
+            bench,
+        );
+    }
+    if running & outside_test(kind) {
+        return refused(TEST_RUNNING, bench);
+    }
+    if !running & inside_test(kind) {
+        return refused(NO_TEST, bench);
+    }
+    let carried = contents.carried;
+    taken(bench, event, carried)
 }

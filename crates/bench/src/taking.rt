@@ -1,4 +1,4 @@
-// An event that 11, 12 and 13 do not refuse: kinds 1 to 8, a start, a second, a stop.
+// An event that 11, 12 and 13 do not refuse: a start, a second, a stop, or any other.
 ghost use mathlib.Core.Path.{_≡_};
 ghost use Rattle.loaded_test.specs.Steps.{second};
 ghost use Rattle.bench.specs.Stepping.{
@@ -20,7 +20,6 @@ ghost use Rattle.bench.specs.Stepping.{
   secondTaken,
   stopTaken,
   taken,
-  ruled,
 };
 use crate::Answer;
 use crate::Bench;
@@ -32,6 +31,7 @@ use loaded_test::Start;
 use loaded_test::Stepped;
 use loaded_test::Test;
 use loaded_test::Verdict;
+use locks::Carried;
 use locks::Event;
 use locks::Locks;
 use reading::Converted;
@@ -40,10 +40,8 @@ use reading::Second;
 use refusal::Refusal;
 use vehicle::Settings;
 
-const AUTOMATIC: u16 = 2;
-
 // A refused event gives back the same bench.
-fn refused(r: Refusal, bench: Bench) -> Handled
+pub(crate) fn refused(r: Refusal, bench: Bench) -> Handled
     ensures { λ x. ⌜ x ≡ refused r bench ⌝ }
 {
     Handled {
@@ -52,25 +50,23 @@ fn refused(r: Refusal, bench: Bench) -> Handled
     }
 }
 
-fn desk_after(d: Desk, event: Event, locks: Locks, automatic: bool, running: bool) -> Desk
-    ensures { λ r. ⌜ r ≡ deskAfter d event locks automatic running ⌝ }
+fn desk_after(d: Desk, event: Event, locks: Locks) -> Desk
+    ensures { λ r. ⌜ r ≡ deskAfter d event locks ⌝ }
 {
     Desk {
         validity: d.validity,
         limit: d.limit,
         clock: locks::clock_after(event),
         locks,
-        automatic,
-        running,
     }
 }
 
-fn with_test(d: Desk, event: Event, automatic: bool, test: Test) -> Bench
-    ensures { λ r. ⌜ r ≡ withTest d event automatic test ⌝ }
+fn with_test(d: Desk, event: Event, test: Test) -> Bench
+    ensures { λ r. ⌜ r ≡ withTest d event test ⌝ }
 {
     let locks = d.locks;
     Bench {
-        desk: desk_after(d, event, locks::locks_after(locks, event), automatic, true),
+        desk: desk_after(d, event, locks::locks_after(locks, event)),
         test,
     }
 }
@@ -79,12 +75,12 @@ fn with_none(d: Desk, event: Event, locks: Locks) -> Bench
     ensures { λ r. ⌜ r ≡ withNone d event locks ⌝ }
 {
     Bench {
-        desk: desk_after(d, event, locks, d.automatic, false),
+        desk: desk_after(d, event, locks),
         test: loaded_test::none_running(),
     }
 }
 
-// Kinds 1 to 8 leave no test: power-on ends one, the others come where there is none.
+// An event that is no start, second or stop leaves no test: power-on ends one, the others come where there is none.
 fn plain_taken(d: Desk, event: Event) -> Handled
     ensures { λ r. ⌜ r ≡ plainTaken d event ⌝ }
 {
@@ -122,7 +118,7 @@ fn lock_ruling(lock: u8) -> Ruling
         return Ruling::Taken;
     }
     Ruling::Refused(Refusal {
-        number: 14,
+        number: refusal::START_LOCKED,
         place: lock as usize,
     })
 }
@@ -137,21 +133,21 @@ fn start_ruling(start: Start, d: Desk, now: u32) -> Ruling
     first_refusal(fit, free)
 }
 
-fn admitted(bench: Bench, event: Event, automatic: bool, test: Test) -> Handled
-    ensures { λ r. ⌜ r ≡ startJudged Ruling.Taken bench event automatic test ⌝ }
+fn admitted(bench: Bench, event: Event, test: Test) -> Handled
+    ensures { λ r. ⌜ r ≡ startJudged Ruling.Taken bench event test ⌝ }
 {
     let desk = bench.desk;
     Handled {
         answer: Answer::Accepted,
-        bench: with_test(desk, event, automatic, test),
+        bench: with_test(desk, event, test),
     }
 }
 
-fn start_judged(ruling: Ruling, bench: Bench, event: Event, automatic: bool, test: Test) -> Handled
-    ensures { λ r. ⌜ r ≡ startJudged ruling bench event automatic test ⌝ }
+fn start_judged(ruling: Ruling, bench: Bench, event: Event, test: Test) -> Handled
+    ensures { λ r. ⌜ r ≡ startJudged ruling bench event test ⌝ }
 {
     match ruling {
-        Ruling::Taken => admitted(bench, event, automatic, test),
+        Ruling::Taken => admitted(bench, event, test),
         Ruling::Refused(r) => refused(r, bench),
     }
 }
@@ -165,7 +161,7 @@ fn start_taken(bench: Bench, event: Event, settings: Settings, saturation: u16) 
     let test = begun.test;
     let desk = bench.desk;
     let ruling = start_ruling(start, desk, locks::clock_of(event));
-    start_judged(ruling, bench, event, settings.gearbox == AUTOMATIC, test)
+    start_judged(ruling, bench, event, test)
 }
 
 // The test goes on.
@@ -174,7 +170,7 @@ fn gone_on(d: Desk, event: Event, test: Test) -> Handled
 {
     Handled {
         answer: Answer::Accepted,
-        bench: with_test(d, event, d.automatic, test),
+        bench: with_test(d, event, test),
     }
 }
 
@@ -229,8 +225,8 @@ fn second_fit(s: Second, bench: Bench, event: Event) -> Handled
 fn second_taken(bench: Bench, event: Event, readings: Readings) -> Handled
     ensures { λ r. ⌜ r ≡ secondTaken bench event readings ⌝ }
 {
-    let desk = bench.desk;
-    match reading::second_of(readings, desk.automatic) {
+    let test = bench.test;
+    match reading::second_of(readings, loaded_test::is_automatic(test)) {
         Converted::Fit(s) => second_fit(s, bench, event),
         Converted::Refused(r) => refused(r, bench),
     }
@@ -244,43 +240,14 @@ fn stop_taken(bench: Bench, event: Event, cause: u8) -> Handled
     test_taken(loaded_test::stop(test, cause), bench, event)
 }
 
-fn taken(bench: Bench, event: Event) -> Handled
-    ensures { λ r. ⌜ r ≡ taken bench event ⌝ }
+pub(crate) fn taken(bench: Bench, event: Event, carried: Carried) -> Handled
+    ensures { λ r. ⌜ r ≡ taken bench event carried ⌝ }
 {
     let desk = bench.desk;
-    match event {
-        Event::PowerOn { clock: _ } => plain_taken(desk, event),
-        Event::ClockSetting {
-            clock: _,
-            new_clock: _,
-        } => plain_taken(desk, event),
-        Event::WarmUp { clock: _ } => plain_taken(desk, event),
-        Event::Calibration {
-            clock: _,
-            outcome: _,
-        } => plain_taken(desk, event),
-        Event::Try {
-            clock: _,
-            outcome: _,
-        } => plain_taken(desk, event),
-        Event::AuthorityLock { clock: _ } => plain_taken(desk, event),
-        Event::AuthorityUnlock { clock: _ } => plain_taken(desk, event),
-        Event::Upload { clock: _ } => plain_taken(desk, event),
-        Event::Start {
-            clock: _,
-            settings,
-            saturation,
-        } => start_taken(bench, event, settings, saturation),
-        Event::Second { clock: _, readings } => second_taken(bench, event, readings),
-        Event::Stop { clock: _, cause } => stop_taken(bench, event, cause),
-    }
-}
-
-pub(crate) fn ruled(ruling: Ruling, bench: Bench, event: Event) -> Handled
-    ensures { λ r. ⌜ r ≡ ruled ruling bench event ⌝ }
-{
-    match ruling {
-        Ruling::Taken => taken(bench, event),
-        Ruling::Refused(r) => refused(r, bench),
+    match carried {
+        Carried::Service(_) => plain_taken(desk, event),
+        Carried::Start(settings, saturation) => start_taken(bench, event, settings, saturation),
+        Carried::Second(readings) => second_taken(bench, event, readings),
+        Carried::Stop(cause) => stop_taken(bench, event, cause),
     }
 }

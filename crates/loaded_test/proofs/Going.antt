@@ -1,11 +1,11 @@
--- A test that runs takes every second and every stop of a fit cause, and runs on but where a verdict was told.
--- Assumes nothing.
+-- A test that runs takes every second and every stop of a fit cause, and runs on but where a verdict was told; one that does not run
+-- refuses both. Assumes nothing.
 use Prim.Native.Nat.{ℕ}
 use mathlib.Core.Bool.{Bool, true, false, not, _||_}
 use mathlib.Core.Path.{_≡_, refl, sym, ap, _∙_, subst}
 use lib.Dec.{eqb}
 use Rattle.refusal.specs.Choice.{pick}
-use Rattle.refusal.specs.Table.{causeUnfit}
+use Rattle.refusal.specs.Table.{noTest, causeUnfit}
 use Rattle.refusal.proofs.Picked.{on-pick}
 use Rattle.reading.specs.declared.Second.{Second}
 use Rattle.vehicle.specs.declared.Vehicle.{Vehicle}
@@ -30,12 +30,13 @@ use Rattle.loaded_test.specs.declared.VoidCounts.{VoidCounts}
 use Rattle.loaded_test.specs.declared.Progress.{Progress}
 use Rattle.loaded_test.specs.declared.Turn.{Turn}
 use Rattle.loaded_test.specs.declared.Test.{Test}
+use Rattle.loaded_test.specs.declared.Stepped.{Stepped}
 use Rattle.loaded_test.specs.State.{withMeasuring, verdictOf, stepped, refused}
 use Rattle.loaded_test.specs.Voids.{ended, modeEnded, voidCounted, voidNext, twiceInconclusive, thirdVoid, voidFollowed, voided, stepFive}
 use Rattle.loaded_test.specs.Rest.{rested}
 use Rattle.loaded_test.specs.Settling.{settlingLeft, closedOne, closedTwo, settlesIn, settles}
 use Rattle.loaded_test.specs.Measuring.{closed, concluded, judged, measures}
-use Rattle.loaded_test.specs.Steps.{taken, measured, inAttempt, secondAt, second, causeFit, stopTaken, stop}
+use Rattle.loaded_test.specs.Steps.{counted, taken, measured, inAttempt, secondAt, second, causeFit, stopTaken, stop}
 use Rattle.loaded_test.specs.Going.{isRunning, hasEnded, endsIn, Goes}
 use Rattle.loaded_test.proofs.Voiding.{same-end}
 
@@ -118,28 +119,27 @@ module _ (p : Progress) (running : isRunning (p .stage) ≡ true) where
       (λ _. turned x _ (five-level _ _ running))
       (λ _. let h = closed-level _ _ in record { did = _; next = _; told = refl; stage = h .stage; verdict = h .verdict })
 
--- What a second of a test that runs comes to.
+-- What a second of a test that runs comes to, from what step 4 makes of it.
 attempt-goes :
-    (x : Test) (s : Second) (y : Screen) (measuring : Bool) →
+    (x : Test) (clear : Stepped) (y : Screen) →
     isRunning (x .progress .stage) ≡ true →
-    Goes (inAttempt y measuring x s)
-unfolding inAttempt endsIn settles taken measured
-attempt-goes x s Waits measuring e = turned x _ (open-level _ e refl)
-attempt-goes x s (Flawed n) measuring e = turned x _ (void-level n _)
-attempt-goes x s Clear measuring e =
-    on-pick Goes measuring _ _
-    (λ _. measures-goes _ e x _ _)
-    (λ _. turned x _ (settles-level _ e (x .progress .mode) (x .vehicle) s))
+    Goes clear →
+    Goes (inAttempt y x clear)
+unfolding inAttempt endsIn
+attempt-goes x clear Waits e g = turned x _ (open-level _ e refl)
+attempt-goes x clear (Flawed n) e g = turned x _ (void-level n _)
+attempt-goes x clear Clear e g = g
 
 at-goes :
     (x : Test) (s : Second) (st : Stage) →
     isRunning (x .progress .stage) ≡ true →
     isRunning st ≡ true →
     Goes (secondAt st x s)
-unfolding secondAt isRunning
+unfolding secondAt isRunning settles taken measured
 at-goes x s NotBegun e o = absurd (nonsense (sym o))
-at-goes x s Settling e o = attempt-goes x s _ false e
-at-goes x s Measuring e o = attempt-goes x s _ true e
+at-goes x s Settling e o =
+    attempt-goes x _ _ e (turned x _ (settles-level (counted (x .progress)) e (x .progress .mode) (x .vehicle) s))
+at-goes x s Measuring e o = attempt-goes x _ _ e (measures-goes (counted (x .progress)) e x _ _)
 at-goes x s Rest e o = turned x _ (rest-level (x .progress) e _)
 at-goes x s (Ended w) e o = absurd (nonsense (sym o))
 
@@ -157,6 +157,24 @@ pub stop-refused :
     (x : Test) (n : ℕ) → causeFit n ≡ false → isRunning (x .progress .stage) ≡ true → stop x n ≡ refused causeUnfit x
 unfolding stop pick
 stop-refused x n f e = rw (e, f)
+
+-- A second is refused 13 by a test that does not run.
+idle-at : (x : Test) (s : Second) (st : Stage) → isRunning st ≡ false → secondAt st x s ≡ refused noTest x
+unfolding secondAt isRunning
+idle-at x s NotBegun e = refl
+idle-at x s Settling e = absurd (nonsense e)
+idle-at x s Measuring e = absurd (nonsense e)
+idle-at x s Rest e = absurd (nonsense e)
+idle-at x s (Ended w) e = refl
+
+pub second-idle : (x : Test) (s : Second) → isRunning (x .progress .stage) ≡ false → second x s ≡ refused noTest x
+unfolding second
+second-idle x s e = idle-at x s (x .progress .stage) e
+
+-- So is a stop, of whatever cause.
+pub stop-idle : (x : Test) (n : ℕ) → isRunning (x .progress .stage) ≡ false → stop x n ≡ refused noTest x
+unfolding stop pick
+stop-idle x n e = rw e
 
 -- A test that runs has no verdict.
 pub running-open : (st : Stage) → isRunning st ≡ true → hasEnded st ≡ false

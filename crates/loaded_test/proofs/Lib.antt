@@ -7,5 +7,7 @@ pub mod Tally
 pub mod Taking
 pub mod Passing
 pub mod Going
+pub mod Refusing
 pub mod Examples
-pub mod Stages
+pub mod Claimed
+pub mod Driven

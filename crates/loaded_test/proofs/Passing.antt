@@ -8,7 +8,8 @@ use lib.Dec.{eqb}
 use lib.ListN.{length, take, length-take}
 use lib.Seq.{take-all, take-take, take-append-le}
 use borrow.Author.Tests.{eqb-true}
-use Rattle.refusal.specs.Choice.{pick}
+use Rattle.refusal.specs.Table.{noTest, causeUnfit}
+use Rattle.refusal.specs.declared.Refusal.{Refusal}
 use Rattle.refusal.proofs.Picked.{on-pick}
 use Rattle.reading.specs.declared.Second.{Second}
 use Rattle.vehicle.specs.declared.Vehicle.{Vehicle}
@@ -21,19 +22,19 @@ use Rattle.attempt.specs.declared.Screen.{Screen}
 use Rattle.attempt.specs.declared.Screen.the-variants.{Waits, Flawed, Clear}
 use Rattle.loaded_test.specs.declared.Progress.{Progress}
 use Rattle.loaded_test.specs.declared.Test.{Test}
-use Rattle.loaded_test.specs.State.{nothing}
+use Rattle.loaded_test.specs.declared.Stepped.{Stepped}
+use Rattle.loaded_test.specs.State.{nothing, refused}
 use Rattle.loaded_test.specs.Going.{isRunning}
-use Rattle.attempt.specs.Screening.{screened}
 use Rattle.attempt.specs.Laws.{Screens}
 use Rattle.attempt.proofs.Screens.{screened-exactly}
-use Rattle.loaded_test.specs.Steps.{counted, taken, measured, inAttempt, secondAt, second, isResting, causeFit, stopTaken, stop}
+use Rattle.loaded_test.specs.Steps.{counted, taken, measured, settled, inAttempt, secondAt, second, isResting, causeFit, stopTaken, stop}
 use Rattle.loaded_test.specs.Windows.{windowOf}
 use Rattle.loaded_test.specs.Log.{Entry, Input, aSecond, aStop, step, replay, logged, logOf}
 use Rattle.loaded_test.specs.Claim.{modeIn, voids, Clean, atStart, goesOn, attemptIn, PassClaim}
 use Rattle.loaded_test.specs.Laws.{Bounded, voidsIn, ninesIn, VoidClaim, IncompleteClaim, FailClaim, LastTen}
 use Rattle.attempt.proofs.Tests.{nonsense}
 use Rattle.loaded_test.proofs.Counting.{Counts, none-counted, attempt-goes, waits-on, counts-on}
-use Rattle.loaded_test.proofs.Holding.{mostSettling, settling-most, Told, Open, Settles, Runs, AtStage, Claims, Good, entry, Stands, Kept}
+use Rattle.loaded_test.proofs.Holding.{mostSettling, settling-most, Told, Open, Settles, Runs, AtStage, Good, entry, Stands, Kept}
 use Rattle.loaded_test.proofs.Voiding.{voided-good}
 use Rattle.loaded_test.proofs.Approach.{told-on, nothing-good, rest-good, settles-good}
 use Rattle.loaded_test.proofs.Taking.{kept-turn, measures-good}
@@ -43,37 +44,29 @@ open-bounded : (p : Progress) → Open p → p .voids .voids ≤ 2 → p .voids 
 open-bounded p o r q = let m = settling-most (p .mode) in omega arith
 
 module _ (x : Test) (log : List Entry) where
-  -- A test that is left as it was, with nothing told.
-  refused-stands :
-      (st : Stage) →
-      x .progress .stage ≡ st →
-      AtStage st (x .vehicle) log (x .progress) (x .last) →
-      Claims (x .vehicle) log →
-      Stands (x .vehicle) log x
-  refused-stands st e h c = record {
-    vehicle = refl;
-    stage = subst⁻¹ (λ (y : Stage). AtStage y (x .vehicle) log (x .progress) (x .last)) e h;
-    claims = c;
-  }
+  -- With a refusal nothing is told.
+  refused-kept : (i : Input) (r : Refusal) → Stands (x .vehicle) log x → Kept (x .vehicle) i log (refused r x)
+  unfolding logged
+  refused-kept i r h = record { vehicle = h .vehicle; stage = h .stage; claims = h .claims }
 
   -- A second in an attempt, from what becomes of it where the test waits and where it is counted.
   screen-good :
-      (s : Second) (measuring : Bool) →
+      (s : Second) (clear : Stepped) →
       Told log (x .progress .mode) (x .progress .voids) →
       Open (x .progress) →
       (x .progress .counted ≡ 0 → s .speed ≤ 10 → Good (x .vehicle) (aSecond s) log (x .last) (nothing (x .progress))) →
-      ((x .progress .counted ≡ 0 → 10 < s .speed) → Clean s → Kept (x .vehicle) (aSecond s) log (inAttempt Clear measuring x s)) →
+      ((x .progress .counted ≡ 0 → 10 < s .speed) → Clean s → Kept (x .vehicle) (aSecond s) log clear) →
       (y : Screen) →
       Screens (x .progress .counted) s y →
-      Kept (x .vehicle) (aSecond s) log (inAttempt y measuring x s)
+      Kept (x .vehicle) (aSecond s) log (inAttempt y x clear)
   unfolding inAttempt
-  screen-good s measuring t o waiting clear Waits q =
+  screen-good s clear t o waiting taken' Waits q =
       kept-turn (x .vehicle) (aSecond s) log (x .last) (x .window) _ (waiting (q .0) (q .1))
-  screen-good s measuring t o waiting clear (Flawed n) q =
+  screen-good s clear t o waiting taken' (Flawed n) q =
       let m = settling-most (x .progress .mode) in
       kept-turn (x .vehicle) (aSecond s) log (x .last) (x .window) _
       (voided-good (x .vehicle) (aSecond s) log (x .last) n (counted (x .progress)) t (omega arith))
-  screen-good s measuring t o waiting clear Clear q = clear (q .0) (record { inRange = q .1; undiluted = q .2 })
+  screen-good s clear t o waiting taken' Clear q = taken' (q .0) (record { inRange = q .1; undiluted = q .2 })
 
   -- c has grown with a counted second.
   counted-on :
@@ -88,14 +81,15 @@ module _ (x : Test) (log : List Entry) where
       subst (Counts (aSecond s ∷ attemptIn log)) e (counts-on s (attemptIn log) (x .progress .counted) fast clean most h)
 
   settling-good :
-      (s : Second) →
+      (s : Second) (y : Screen) →
+      Screens (x .progress .counted) s y →
       x .progress .stage ≡ Settling →
       Settles log (x .progress) →
-      Kept (x .vehicle) (aSecond s) log (secondAt Settling x s)
-  unfolding secondAt inAttempt voids pick
-  settling-good s e h =
+      Kept (x .vehicle) (aSecond s) log (inAttempt y x (settled x s (counted (x .progress))))
+  unfolding voids
+  settling-good s y q e h =
       let o = h .bounds in
-      screen-good s false (h .told) (h .bounds)
+      screen-good s _ (h .told) (h .bounds)
       (λ z slow. nothing-good (x .vehicle) (aSecond s) log (x .last) (x .progress)
       (subst⁻¹ (λ (y : Stage). AtStage y (x .vehicle) (entry (aSecond s) (nothing (x .progress)) ∷ log) (x .progress) (x .last)) e
       (record {
@@ -107,19 +101,19 @@ module _ (x : Test) (log : List Entry) where
       (λ fast clean. kept-turn (x .vehicle) (aSecond s) log (x .last) (x .window) _
       (settles-good (x .vehicle) (aSecond s) log (x .last) s (counted (x .progress)) e (h .told) (omega arith) (omega arith) (omega arith) (h .attempt)
       (counted-on s (o .counted) fast clean (h .counting))))
-      (screened (x .progress .counted) s)
-      (screened-exactly (x .progress .counted) s)
+      y q
 
   measuring-good :
-      (s : Second) →
+      (s : Second) (y : Screen) →
+      Screens (x .progress .counted) s y →
       x .progress .stage ≡ Measuring →
       Runs (x .vehicle) log (x .progress) (x .last) →
-      Kept (x .vehicle) (aSecond s) log (secondAt Measuring x s)
-  unfolding secondAt inAttempt taken measured pick
-  measuring-good s e h =
+      Kept (x .vehicle) (aSecond s) log (inAttempt y x (measured x s (counted (x .progress))))
+  unfolding taken measured
+  measuring-good s y q e h =
       let o = h .bounds in
       let r = h .running .started in
-      screen-good s true (h .told) (h .bounds)
+      screen-good s _ (h .told) (h .bounds)
       (λ z slow. absurd (omega arith))
       (λ fast c. measures-good x log s (counted (x .progress))
       (record {
@@ -144,23 +138,22 @@ module _ (x : Test) (log : List Entry) where
       })
       (measuredOf (x .vehicle) (x .progress .mode) s)
       (ap (λ mode. measuredOf (x .vehicle) mode s) (h .told .mode)))
-      (screened (x .progress .counted) s)
-      (screened-exactly (x .progress .counted) s)
+      y q
 
   second-at :
       (s : Second) (st : Stage) →
       x .progress .stage ≡ st →
       AtStage st (x .vehicle) log (x .progress) (x .last) →
-      Claims (x .vehicle) log →
+      Stands (x .vehicle) log x →
       Kept (x .vehicle) (aSecond s) log (secondAt st x s)
-  unfolding secondAt logged
-  second-at s NotBegun e h c = absurd h
-  second-at s Settling e h c = settling-good s e h
-  second-at s Measuring e h c = measuring-good s e h
-  second-at s Rest e h c =
+  unfolding secondAt
+  second-at s NotBegun e h k = absurd h
+  second-at s Settling e h k = settling-good s _ (screened-exactly (x .progress .counted) s) e h
+  second-at s Measuring e h k = measuring-good s _ (screened-exactly (x .progress .counted) s) e h
+  second-at s Rest e h k =
       kept-turn (x .vehicle) (aSecond s) log (x .last) (x .window) _
       (rest-good (x .vehicle) (aSecond s) log (x .last) s (x .progress) e (h .told) (h .bounds))
-  second-at s (Ended w) e h c = refused-stands (Ended w) e h c
+  second-at s (Ended w) e h k = refused-kept (aSecond s) noTest k
 
   -- A stop that an open test takes.
   stop-taken :
@@ -205,17 +198,17 @@ module _ (x : Test) (log : List Entry) where
   stop-at n (Ended w) e h c = absurd (nonsense (sym c))
 
   stop-good : (n : ℕ) → Stands (x .vehicle) log x → Kept (x .vehicle) (aStop n) log (stop x n)
-  unfolding stop logged
+  unfolding stop
   stop-good n h =
       on-pick (Kept (x .vehicle) (aStop n) log) (isRunning (x .progress .stage)) _ _
       (λ e. on-pick (Kept (x .vehicle) (aStop n) log) (causeFit n) _ _
       (λ _. kept-turn (x .vehicle) (aStop n) log (x .last) (x .window) _ (stop-at n (x .progress .stage) refl (h .stage) e))
-      (λ _. h))
-      (λ _. h)
+      (λ _. refused-kept (aStop n) causeUnfit h))
+      (λ _. refused-kept (aStop n) noTest h)
 
   step-good : (i : Input) → Stands (x .vehicle) log x → Kept (x .vehicle) i log (step x i)
   unfolding second
-  step-good (aSecond s) h = second-at s (x .progress .stage) refl (h .stage) (h .claims)
+  step-good (aSecond s) h = second-at s (x .progress .stage) refl (h .stage) h
   step-good (aStop n) h = stop-good n h
 
 -- After every list of inputs.

@@ -6,6 +6,7 @@ use mathlib.Core.Logic.{_⊎_}
 use lib.Dec.{eqb}
 use lib.ListN.{length, take}
 use Rattle.refusal.specs.Choice.{pick}
+use Rattle.refusal.specs.declared.Refusal.{Refusal}
 use Rattle.reading.specs.declared.Second.{Second}
 use Rattle.vehicle.specs.declared.Vehicle.{Vehicle}
 use Rattle.vehicle.specs.declared.Mode.{Mode}
@@ -18,10 +19,17 @@ use Rattle.loaded_test.specs.declared.Did.{Did}
 use Rattle.loaded_test.specs.declared.Did.the-variants as did
 use Rattle.loaded_test.specs.declared.Next.{Next}
 use Rattle.loaded_test.specs.declared.Next.the-variants.{GoesOn, Rests, RestEnded, ModeTwo, Ends}
+use Rattle.loaded_test.specs.declared.Answer.the-variants.{Refused}
 use Rattle.loaded_test.specs.declared.Progress.{Progress}
+use Rattle.loaded_test.specs.declared.Test.{Test}
+use Rattle.loaded_test.specs.declared.Stepped.{Stepped}
 use Rattle.loaded_test.specs.Windows.{windowOf}
 use Rattle.loaded_test.specs.Log.{Entry}
 use Rattle.loaded_test.specs.Claim.{modeIn, Measures}
+
+-- "Left as it was: all": where the answer is a refusal, the test is the one that was given, whatever its state.
+abbrev pub BackIfRefused : Test → Stepped → Type 0
+BackIfRefused x y = (r : Refusal) → y .answer ≡ Refused r → y .test ≡ x
 
 -- The greatest counts: no counter is at its cap, 255.
 pub record Bounded (p : Progress) : Type 0 where

@@ -9,3 +9,5 @@ pub mod Windows
 pub mod Log
 pub mod Claim
 pub mod Laws
+pub mod Examples
+pub mod Claims

@@ -44,34 +44,27 @@ taken x s m p = measures x m (tallied (m .out) (s .speed) (p .measuring)) p
 unfoldable pub measured : Test → Second → Progress → Stepped
 measured x s p = taken x s (measuredOf (x .vehicle) (p .mode) s) p
 
--- A second in an attempt, settling or measuring: steps 2 and 3, then step 4 with c grown.
-unfoldable pub inAttempt : Screen → Bool → Test → Second → Stepped
-inAttempt Waits measuring x s = stepped x (nothing (x .progress))
-inAttempt (Flawed n) measuring x s = stepped x (voided n (counted (x .progress)))
-inAttempt Clear measuring x s =
-    pick measuring
-    (measured x s (counted (x .progress)))
-    (stepped x (settles (x .vehicle) s (counted (x .progress))))
+-- A second of settling.
+abbrev pub settled : Test → Second → Progress → Stepped
+settled x s p = stepped x (settles (x .vehicle) s p)
+
+-- A second in an attempt: steps 2 and 3; where it neither waits nor is void, what step 4 makes of it.
+unfoldable pub inAttempt : Screen → Test → Stepped → Stepped
+inAttempt Waits x clear = stepped x (nothing (x .progress))
+inAttempt (Flawed n) x clear = stepped x (voided n (counted (x .progress)))
+inAttempt Clear x clear = clear
 
 -- What a second comes to at each stage. "second or stop, no test": refused where no test has begun and where it has ended.
 unfoldable pub secondAt : Stage → Test → Second → Stepped
 secondAt NotBegun x s = refused noTest x
-secondAt Settling x s = inAttempt (screened (x .progress .counted) s) false x s
-secondAt Measuring x s = inAttempt (screened (x .progress .counted) s) true x s
+secondAt Settling x s = inAttempt (screened (x .progress .counted) s) x (settled x s (counted (x .progress)))
+secondAt Measuring x s = inAttempt (screened (x .progress .counted) s) x (measured x s (counted (x .progress)))
 secondAt Rest x s = stepped x (rested (restCount (x .progress .resting) s) (x .progress))
 secondAt (Ended w) x s = refused noTest x
 
 -- A second.
 unfoldable pub second : Test → Second → Stepped
 second x s = secondAt (x .progress .stage) x s
-
--- The stage "measuring".
-unfoldable pub isMeasuring : Stage → Bool
-isMeasuring NotBegun = false
-isMeasuring Settling = false
-isMeasuring Measuring = true
-isMeasuring Rest = false
-isMeasuring (Ended w) = false
 
 -- The stage "rest".
 unfoldable pub isResting : Stage → Bool

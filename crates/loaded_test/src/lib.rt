@@ -1,10 +1,12 @@
 // Document 01, "One test, second by second": the test of one vehicle, from its beginning to its verdict.
 // Exported: begin, second and stop, which tell what happened; what is printed of a test; the types of state and answers.
-// Inside: voids.rt, settling.rt (with rest) and measuring.rt have the rules of a stage each, steps.rt puts them together.
+// Inside: settling.rt (with rest) and measuring.rt have a second at a stage each, voids.rt what follows a void, steps.rt what they share.
 
 ghost use mathlib.Core.Path.{_≡_};
 ghost use Rattle.loaded_test.specs.State.{testOf, began, noneRunning};
 ghost use Rattle.loaded_test.specs.Steps.{startOf, begin, second, stop};
+ghost use Rattle.loaded_test.specs.Laws.{BackIfRefused};
+ghost use Rattle.loaded_test.specs.Claims.{TestClaims};
 
 mod measuring;
 mod printed;
@@ -131,12 +133,12 @@ pub(crate) struct Turn {
 }
 
 const NO_TEST: Refusal = Refusal {
-    number: 13,
+    number: refusal::NO_TEST,
     place: 0,
 };
 
 const CAUSE_UNFIT: Refusal = Refusal {
-    number: 15,
+    number: refusal::CAUSE_UNFIT,
     place: 0,
 };
 
@@ -180,10 +182,11 @@ fn start_of(answer: Start, test: Test) -> Begun
     Begun { answer, test }
 }
 
-// A test begins, or the start is refused 4 with the setting's place, 1 to 7, or 5 with place 0.
+// A test begins, or the start is refused 4 with the setting's place, 1 to 7, or 5 with place 0; with it come the claims about every test.
 // Ruled out: a test that begins in mode 2, and one that begins with an unfit setting.
 pub fn begin(settings: Settings, saturation: u16) -> Begun
-    ensures { λ r. ⌜ r ≡ begin settings saturation ⌝ }
+    ensures answer { λ r. ⌜ r ≡ begin settings saturation ⌝ }
+    ensures claims { λ r. ⌜ TestClaims ⌝ }
 {
     let checked = vehicle::checked_of(settings, saturation);
     match checked {
@@ -192,34 +195,28 @@ pub fn begin(settings: Settings, saturation: u16) -> Begun
     }
 }
 
-// A second. Where no test runs it is refused 13.
-// Ruled out: a step that returns the test as it was, and a pass at t = 24.
+// A second. Where no test runs it is refused 13, which gives back the test as it was.
+// Ruled out: a step that returns the test as it was, a pass at t = 24, and a refusal that loses the last valid window.
 pub fn second(test: Test, s: Second) -> Stepped
-    ensures { λ r. ⌜ r ≡ second test s ⌝ }
+    ensures answer { λ r. ⌜ r ≡ second test s ⌝ }
+    ensures back { λ r. ⌜ BackIfRefused test r ⌝ }
 {
     let p = test.progress;
     let stage = p.stage;
-    if !steps::is_running(stage) {
-        return steps::refused(NO_TEST, test);
+    match stage {
+        Stage::NotBegun => steps::refused(NO_TEST, test),
+        Stage::Settling => settling::in_settling(test, s),
+        Stage::Measuring => measuring::in_measuring(test, s),
+        Stage::Rest => settling::in_rest(test, s),
+        Stage::Ended(_) => steps::refused(NO_TEST, test),
     }
-    if steps::is_resting(stage) {
-        return measuring::stepped(
-            test,
-            settling::rested(settling::rest_count(p.resting, s), p),
-        );
-    }
-    steps::in_attempt(
-        attempt::screened(p.counted, s),
-        steps::is_measuring(stage),
-        test,
-        s,
-    )
 }
 
-// A stop. Where no test runs it is refused 13, of another cause than 1 to 4 refused 15.
+// A stop. Where no test runs it is refused 13, of another cause than 1 to 4 refused 15; either gives back the test as it was.
 // Ruled out: a stop in rest that counts as a void, and cause 9 taken for void 9.
 pub fn stop(test: Test, cause: u8) -> Stepped
-    ensures { λ r. ⌜ r ≡ stop test cause ⌝ }
+    ensures answer { λ r. ⌜ r ≡ stop test cause ⌝ }
+    ensures back { λ r. ⌜ BackIfRefused test r ⌝ }
 {
     let p = test.progress;
     let stage = p.stage;

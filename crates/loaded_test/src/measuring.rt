@@ -14,7 +14,9 @@ ghost use Rattle.loaded_test.specs.Measuring.{
   measures,
 };
 ghost use Rattle.loaded_test.specs.Voids.{stepFive};
+ghost use Rattle.loaded_test.specs.Steps.{measured, secondAt};
 ghost use Rattle.loaded_test.specs.declared.Did.the-variants.{Restarted};
+ghost use Rattle.loaded_test.specs.declared.Stage.the-variants.{Measuring};
 ghost use Rattle.attempt.specs.Measuring.{noMeasuring};
 use crate::Answer;
 use crate::Did;
@@ -23,6 +25,9 @@ use crate::Stepped;
 use crate::Test;
 use crate::Turn;
 use crate::Word;
+use crate::steps::counted;
+use crate::steps::flawed;
+use crate::steps::waited;
 use crate::voids::NO_MEASURING;
 use crate::voids::ended;
 use crate::voids::mode_ended;
@@ -30,10 +35,13 @@ use crate::voids::step_five;
 use crate::voids::voided;
 use attempt::Ending;
 use attempt::MeasuringCounts;
+use attempt::Screen;
 use attempt::ending_rule;
 use attempt::restarts;
 use attempt::speed_held;
+use attempt::tallied;
 use attempt::window_counted;
+use reading::Second;
 use vehicle::Vehicle;
 use window::Measured;
 
@@ -167,7 +175,7 @@ fn restarted(x: Test, p: Progress) -> Stepped
     stepped(x, step_five(Did::Restarted, q))
 }
 
-pub(crate) fn measures(x: Test, m: Measured, k: MeasuringCounts, p: Progress) -> Stepped
+fn measures(x: Test, m: Measured, k: MeasuringCounts, p: Progress) -> Stepped
     ensures { λ r. ⌜ r ≡ measures x m k p ⌝ }
 {
     if restarts(k) {
@@ -176,4 +184,26 @@ pub(crate) fn measures(x: Test, m: Measured, k: MeasuringCounts, p: Progress) ->
     let a = x.last;
     let last = pushed(m, a);
     judged(window_taken(k.seconds, last), x, k, p, last)
+}
+
+fn measured(x: Test, s: Second, p: Progress) -> Stepped
+    ensures { λ r. ⌜ r ≡ measured x s p ⌝ }
+{
+    let v = x.vehicle;
+    let mode = p.mode;
+    let k = p.measuring;
+    let m = window::measured_of(v, mode, s);
+    measures(x, m, tallied(m.out(), s.speed(), k), p)
+}
+
+// A second while measuring.
+pub(crate) fn in_measuring(x: Test, s: Second) -> Stepped
+    ensures { λ r. ⌜ r ≡ secondAt Measuring x s ⌝ }
+{
+    let p = x.progress;
+    match attempt::screened(p.counted, s) {
+        Screen::Waits => waited(x, p),
+        Screen::Flawed(n) => flawed(x, n, counted(p)),
+        Screen::Clear => measured(x, s, counted(p)),
+    }
 }

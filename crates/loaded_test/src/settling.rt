@@ -3,29 +3,37 @@ ghost use mathlib.Core.Path.{_≡_};
 ghost use Rattle.vehicle.specs.declared.Mode.the-variants.{One, Two};
 ghost use Rattle.loaded_test.specs.declared.Did.the-variants.{Nothing};
 ghost use Rattle.loaded_test.specs.declared.Next.the-variants.{RestEnded};
-ghost use Rattle.loaded_test.specs.declared.Stage.the-variants.{Settling};
+ghost use Rattle.loaded_test.specs.declared.Stage.the-variants.{Settling, Rest};
 ghost use Rattle.loaded_test.specs.State.{emptied, turn};
 ghost use Rattle.loaded_test.specs.Rest.{restCount, rested};
 ghost use Rattle.loaded_test.specs.Settling.{measuringFrom, settlingLeft, closedOne, closedTwo, settlesIn, settles};
+ghost use Rattle.loaded_test.specs.Steps.{settled, secondAt};
 use crate::Did;
 use crate::Next;
 use crate::Progress;
 use crate::Stage;
+use crate::Stepped;
+use crate::Test;
 use crate::Turn;
 use crate::VoidCounts;
+use crate::measuring::stepped;
+use crate::steps::counted;
+use crate::steps::flawed;
+use crate::steps::waited;
 use crate::voids::NO_MEASURING;
 use crate::voids::NO_SETTLING;
 use crate::voids::emptied;
 use crate::voids::nothing;
 use crate::voids::step_five;
 use crate::voids::voided;
+use attempt::Screen;
 use attempt::SettlingCounts;
 use attempt::in_row;
 use reading::Second;
 use vehicle::Mode;
 use vehicle::Vehicle;
 
-pub(crate) fn rest_count(k: u8, s: Second) -> u8
+fn rest_count(k: u8, s: Second) -> u8
     ensures { λ r. ⌜ r ≡ restCount k s ⌝ }
 {
     in_row(s.speed() < 10, k)
@@ -42,7 +50,7 @@ fn rest_ended(mode: Mode, voids: VoidCounts) -> Turn
 }
 
 // The attempt begins anew at a rest count of 10.
-pub(crate) fn rested(k: u8, p: Progress) -> Turn
+fn rested(k: u8, p: Progress) -> Turn
     ensures { λ r. ⌜ r ≡ rested k p ⌝ }
 {
     if k == 10 {
@@ -53,6 +61,14 @@ pub(crate) fn rested(k: u8, p: Progress) -> Turn
     let mut q = p;
     q.resting = k;
     nothing(q)
+}
+
+// A second of rest.
+pub(crate) fn in_rest(x: Test, s: Second) -> Stepped
+    ensures { λ r. ⌜ r ≡ secondAt Rest x s ⌝ }
+{
+    let p = x.progress;
+    stepped(x, rested(rest_count(p.resting, s), p))
 }
 
 fn measuring_from(p: Progress) -> Progress
@@ -112,12 +128,31 @@ fn settles_two(v: Vehicle, s: Second, p: Progress) -> Turn
     closed_two(attempt::second_two(v, s, k), p)
 }
 
-pub(crate) fn settles(v: Vehicle, s: Second, p: Progress) -> Turn
+fn settles(v: Vehicle, s: Second, p: Progress) -> Turn
     ensures { λ r. ⌜ r ≡ settles v s p ⌝ }
 {
     let mode = p.mode;
     match mode {
         Mode::One => settles_one(v, s, p),
         Mode::Two => settles_two(v, s, p),
+    }
+}
+
+fn settled(x: Test, s: Second, p: Progress) -> Stepped
+    ensures { λ r. ⌜ r ≡ settled x s p ⌝ }
+{
+    let v = x.vehicle;
+    stepped(x, settles(v, s, p))
+}
+
+// A second while settling.
+pub(crate) fn in_settling(x: Test, s: Second) -> Stepped
+    ensures { λ r. ⌜ r ≡ secondAt Settling x s ⌝ }
+{
+    let p = x.progress;
+    match attempt::screened(p.counted, s) {
+        Screen::Waits => waited(x, p),
+        Screen::Flawed(n) => flawed(x, n, counted(p)),
+        Screen::Clear => settled(x, s, counted(p)),
     }
 }

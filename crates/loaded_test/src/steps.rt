@@ -1,35 +1,22 @@
-// A second and a stop, by the stage.
+// What the stages share: steps 2 and 3, a refusal, what is asked of a stage, and a stop.
 ghost use mathlib.Core.Path.{_≡_};
-ghost use Rattle.attempt.specs.declared.Screen.the-variants.{Clear};
-ghost use Rattle.loaded_test.specs.State.{refused};
+ghost use Rattle.loaded_test.specs.State.{nothing, stepped, refused};
 ghost use Rattle.loaded_test.specs.Going.{isRunning, hasEnded};
-ghost use Rattle.loaded_test.specs.Steps.{
-  counted,
-  inAttempt,
-  measured,
-  isMeasuring,
-  isResting,
-  causeFit,
-  stopTaken,
-};
+ghost use Rattle.loaded_test.specs.Voids.{voided};
+ghost use Rattle.loaded_test.specs.Steps.{counted, isResting, causeFit, stopTaken};
 use crate::Answer;
 use crate::Progress;
 use crate::Stage;
 use crate::Stepped;
 use crate::Test;
 use crate::Turn;
-use crate::measuring::measures;
 use crate::measuring::stepped;
-use crate::settling::settles;
 use crate::voids::nothing;
 use crate::voids::voided;
-use attempt::Screen;
 use attempt::bump;
-use attempt::tallied;
-use reading::Second;
 use refusal::Refusal;
 
-fn counted(p: Progress) -> Progress
+pub(crate) fn counted(p: Progress) -> Progress
     ensures { λ r. ⌜ r ≡ counted p ⌝ }
 {
     let c = bump(p.counted);
@@ -38,37 +25,18 @@ fn counted(p: Progress) -> Progress
     q
 }
 
-fn measured(x: Test, s: Second, p: Progress) -> Stepped
-    ensures { λ r. ⌜ r ≡ measured x s p ⌝ }
+// At c = 0 the second changes nothing.
+pub(crate) fn waited(x: Test, p: Progress) -> Stepped
+    ensures { λ r. ⌜ r ≡ stepped x (nothing p) ⌝ }
 {
-    let v = x.vehicle;
-    let mode = p.mode;
-    let k = p.measuring;
-    let m = window::measured_of(v, mode, s);
-    measures(x, m, tallied(m.out(), s.speed(), k), p)
+    stepped(x, nothing(p))
 }
 
-fn cleared(measuring: bool, x: Test, s: Second) -> Stepped
-    ensures { λ r. ⌜ r ≡ inAttempt Clear measuring x s ⌝ }
+// Over range or diluted.
+pub(crate) fn flawed(x: Test, n: u8, p: Progress) -> Stepped
+    ensures { λ r. ⌜ r ≡ stepped x (voided n p) ⌝ }
 {
-    let p = x.progress;
-    let q = counted(p);
-    if measuring {
-        return measured(x, s, q);
-    }
-    let v = x.vehicle;
-    stepped(x, settles(v, s, q))
-}
-
-pub(crate) fn in_attempt(screen: Screen, measuring: bool, x: Test, s: Second) -> Stepped
-    ensures { λ r. ⌜ r ≡ inAttempt screen measuring x s ⌝ }
-{
-    let p = x.progress;
-    match screen {
-        Screen::Waits => stepped(x, nothing(p)),
-        Screen::Flawed(n) => stepped(x, voided(n, counted(p))),
-        Screen::Clear => cleared(measuring, x, s),
-    }
+    stepped(x, voided(n, p))
 }
 
 // The test stays as it was.
@@ -113,18 +81,6 @@ pub(crate) fn is_resting(stage: Stage) -> bool
         Stage::Settling => false,
         Stage::Measuring => false,
         Stage::Rest => true,
-        Stage::Ended(_) => false,
-    }
-}
-
-pub(crate) fn is_measuring(stage: Stage) -> bool
-    ensures { λ r. ⌜ r ≡ isMeasuring stage ⌝ }
-{
-    match stage {
-        Stage::NotBegun => false,
-        Stage::Settling => false,
-        Stage::Measuring => true,
-        Stage::Rest => false,
         Stage::Ended(_) => false,
     }
 }

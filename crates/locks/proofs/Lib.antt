@@ -1,1 +1,4 @@
+pub mod Sorts
 pub mod Kept
+pub mod Found
+pub mod Stands

@@ -7,7 +7,7 @@ use lib.Dec.{eqb}
 use Rattle.refusal.specs.Choice.{pick}
 use Rattle.loaded_test.specs.declared.Verdict.{Verdict}
 use Rattle.locks.specs.declared.Event.{Event}
-use Rattle.locks.specs.Events.{kindOf, clockOf}
+use Rattle.locks.specs.Events.{kindOf}
 
 -- An accepted event with the verdict that it brought, if it brought one.
 pub record Accepted : Type 0 where
@@ -41,8 +41,3 @@ orElse none y = y
 unfoldable pub latestOf : {A : Type 0} → (Event → Option A) → List Accepted → Option A
 latestOf f [] = none
 latestOf f (a ∷ l) = orElse (f (a .event)) (latestOf f l)
-
--- The clock of the latest event of a kind; a fresh bench's, 0, where there is none.
-unfoldable pub latestClock : (Accepted → Bool) → List Accepted → ℕ
-latestClock p [] = 0
-latestClock p (a ∷ l) = pick (p a) (clockOf (a .event)) (latestClock p l)

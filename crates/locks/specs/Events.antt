@@ -1,132 +1,140 @@
 -- The eleven kinds of event (document 01, "Locks of the bench"), and what each carries.
 use Prim.Native.Nat.{ℕ}
+use mathlib.Core.Bool.{Bool, true, false}
 use mathlib.Core.Option.{Option, none, some}
 use Rattle.reading.specs.declared.Readings.{Readings}
 use Rattle.vehicle.specs.declared.Settings.{Settings}
 use Rattle.locks.specs.declared.Calibration.{Calibration as Outcome}
+use Rattle.locks.specs.declared.Calibration.the-variants.{Passed, Failed}
 use Rattle.locks.specs.declared.Try.{Try as Tried}
 use Rattle.locks.specs.declared.Event.{Event}
 use Rattle.locks.specs.declared.Event.the-variants.{PowerOn, ClockSetting, WarmUp, Calibration, Try, AuthorityLock, AuthorityUnlock, Upload, Start, Second, Stop}
+use Rattle.locks.specs.declared.Service.{Service}
+use Rattle.locks.specs.declared.Service.the-variants as service
+use Rattle.locks.specs.declared.Carried.{Carried}
+use Rattle.locks.specs.declared.Carried.the-variants as carried
+use Rattle.locks.specs.declared.Contents.{Contents}
 
--- "Kinds: 1 power-on; 2 clock setting ..; 3 warm-up finished; 4 calibration ..; 5 try ..; 6 authority lock; 7 authority unlock;
--- 8 upload; 9 start ..; 10 second ..; 11 stop .."
+-- A kind's number, an event's clock and what it carries beside it.
+abbrev pub described : ℕ → ℕ → Carried → Contents
+described kind clock x = record { kind = kind; clock = clock; carried = x }
+
+-- "Events carry a clock (32 bits, seconds). Kinds: 1 power-on; 2 clock setting (new clock); 3 warm-up finished; 4 calibration (passed
+-- or not); 5 try (good with its expiry, or wrong); 6 authority lock; 7 authority unlock; 8 upload; 9 start (the seven settings, then
+-- p ..); 10 second (codes 1 to 8); 11 stop (cause)."
+abbrev pub contentsOf : Event → Contents
+contentsOf (PowerOn clock) = described 1 clock (carried.Service service.Nothing)
+contentsOf (ClockSetting clock new) = described 2 clock (carried.Service (service.NewClock new))
+contentsOf (WarmUp clock) = described 3 clock (carried.Service service.Nothing)
+contentsOf (Calibration clock outcome) = described 4 clock (carried.Service (service.Outcome outcome))
+contentsOf (Try clock outcome) = described 5 clock (carried.Service (service.Tried outcome))
+contentsOf (AuthorityLock clock) = described 6 clock (carried.Service service.Nothing)
+contentsOf (AuthorityUnlock clock) = described 7 clock (carried.Service service.Nothing)
+contentsOf (Upload clock) = described 8 clock (carried.Service service.Nothing)
+contentsOf (Start clock settings p) = described 9 clock (carried.Start settings p)
+contentsOf (Second clock readings) = described 10 clock (carried.Second readings)
+contentsOf (Stop clock cause) = described 11 clock (carried.Stop cause)
+
+-- The number of its kind.
 abbrev pub kindOf : Event → ℕ
-kindOf (PowerOn clock) = 1
-kindOf (ClockSetting clock new) = 2
-kindOf (WarmUp clock) = 3
-kindOf (Calibration clock outcome) = 4
-kindOf (Try clock outcome) = 5
-kindOf (AuthorityLock clock) = 6
-kindOf (AuthorityUnlock clock) = 7
-kindOf (Upload clock) = 8
-kindOf (Start clock settings p) = 9
-kindOf (Second clock readings) = 10
-kindOf (Stop clock cause) = 11
+kindOf e = contentsOf e .kind
 
--- "Events carry a clock (32 bits, seconds)."
+-- Its own clock.
 abbrev pub clockOf : Event → ℕ
-clockOf (PowerOn clock) = clock
-clockOf (ClockSetting clock new) = clock
-clockOf (WarmUp clock) = clock
-clockOf (Calibration clock outcome) = clock
-clockOf (Try clock outcome) = clock
-clockOf (AuthorityLock clock) = clock
-clockOf (AuthorityUnlock clock) = clock
-clockOf (Upload clock) = clock
-clockOf (Start clock settings p) = clock
-clockOf (Second clock readings) = clock
-clockOf (Stop clock cause) = clock
+clockOf e = contentsOf e .clock
+
+-- What it carries.
+abbrev pub carriedBy : Event → Carried
+carriedBy e = contentsOf e .carried
+
+-- What an event that is no start, second or stop carries; nothing in these.
+abbrev pub servedBy : Carried → Service
+servedBy (carried.Service x) = x
+servedBy (carried.Start settings p) = service.Nothing
+servedBy (carried.Second readings) = service.Nothing
+servedBy (carried.Stop cause) = service.Nothing
+
+-- The same, of the event.
+abbrev pub serviceIn : Event → Service
+serviceIn e = servedBy (carriedBy e)
+
+-- A new clock in place of an event's own.
+abbrev pub clockWith : Service → ℕ → ℕ
+clockWith service.Nothing clock = clock
+clockWith (service.NewClock new) clock = new
+clockWith (service.Outcome outcome) clock = clock
+clockWith (service.Tried outcome) clock = clock
 
 -- "its clock, or a clock setting's new one, becomes the last"
 abbrev pub clockAfter : Event → ℕ
-clockAfter (PowerOn clock) = clock
-clockAfter (ClockSetting clock new) = new
-clockAfter (WarmUp clock) = clock
-clockAfter (Calibration clock outcome) = clock
-clockAfter (Try clock outcome) = clock
-clockAfter (AuthorityLock clock) = clock
-clockAfter (AuthorityUnlock clock) = clock
-clockAfter (Upload clock) = clock
-clockAfter (Start clock settings p) = clock
-clockAfter (Second clock readings) = clock
-clockAfter (Stop clock cause) = clock
+clockAfter e = clockWith (serviceIn e) (clockOf e)
+
+-- A calibration that passed.
+abbrev pub passed : Outcome → Bool
+passed Passed = true
+passed Failed = false
 
 -- What a calibration carries, with its clock.
 pub record Calibrating : Type 0 where
   pub clock : ℕ
   pub outcome : Outcome
 
+-- A calibration at this clock.
+abbrev pub calibrationWith : ℕ → Service → Option Calibrating
+calibrationWith clock service.Nothing = none
+calibrationWith clock (service.NewClock new) = none
+calibrationWith clock (service.Outcome outcome) = some (record { clock = clock; outcome = outcome })
+calibrationWith clock (service.Tried outcome) = none
+
 -- The calibration in an event, with its clock.
 abbrev pub calibrationIn : Event → Option Calibrating
-calibrationIn (PowerOn clock) = none
-calibrationIn (ClockSetting clock new) = none
-calibrationIn (WarmUp clock) = none
-calibrationIn (Calibration clock outcome) = some (record { clock = clock; outcome = outcome })
-calibrationIn (Try clock outcome) = none
-calibrationIn (AuthorityLock clock) = none
-calibrationIn (AuthorityUnlock clock) = none
-calibrationIn (Upload clock) = none
-calibrationIn (Start clock settings p) = none
-calibrationIn (Second clock readings) = none
-calibrationIn (Stop clock cause) = none
+calibrationIn e = calibrationWith (clockOf e) (serviceIn e)
+
+-- A try.
+abbrev pub tryWith : Service → Option Tried
+tryWith service.Nothing = none
+tryWith (service.NewClock new) = none
+tryWith (service.Outcome outcome) = none
+tryWith (service.Tried outcome) = some outcome
 
 -- The try in an event.
 abbrev pub tryIn : Event → Option Tried
-tryIn (PowerOn clock) = none
-tryIn (ClockSetting clock new) = none
-tryIn (WarmUp clock) = none
-tryIn (Calibration clock outcome) = none
-tryIn (Try clock outcome) = some outcome
-tryIn (AuthorityLock clock) = none
-tryIn (AuthorityUnlock clock) = none
-tryIn (Upload clock) = none
-tryIn (Start clock settings p) = none
-tryIn (Second clock readings) = none
-tryIn (Stop clock cause) = none
+tryIn e = tryWith (serviceIn e)
 
 -- "start (the seven settings, then p ..)"
 pub record Starting : Type 0 where
   pub settings : Settings
   pub saturation : ℕ
 
+-- A start.
+abbrev pub startWith : Carried → Option Starting
+startWith (carried.Service x) = none
+startWith (carried.Start settings p) = some (record { settings = settings; saturation = p })
+startWith (carried.Second readings) = none
+startWith (carried.Stop cause) = none
+
 -- The start in an event.
 abbrev pub startIn : Event → Option Starting
-startIn (PowerOn clock) = none
-startIn (ClockSetting clock new) = none
-startIn (WarmUp clock) = none
-startIn (Calibration clock outcome) = none
-startIn (Try clock outcome) = none
-startIn (AuthorityLock clock) = none
-startIn (AuthorityUnlock clock) = none
-startIn (Upload clock) = none
-startIn (Start clock settings p) = some (record { settings = settings; saturation = p })
-startIn (Second clock readings) = none
-startIn (Stop clock cause) = none
+startIn e = startWith (carriedBy e)
 
 -- The readings of a second.
+abbrev pub readingsWith : Carried → Option Readings
+readingsWith (carried.Service x) = none
+readingsWith (carried.Start settings p) = none
+readingsWith (carried.Second readings) = some readings
+readingsWith (carried.Stop cause) = none
+
+-- The readings in an event.
 abbrev pub readingsIn : Event → Option Readings
-readingsIn (PowerOn clock) = none
-readingsIn (ClockSetting clock new) = none
-readingsIn (WarmUp clock) = none
-readingsIn (Calibration clock outcome) = none
-readingsIn (Try clock outcome) = none
-readingsIn (AuthorityLock clock) = none
-readingsIn (AuthorityUnlock clock) = none
-readingsIn (Upload clock) = none
-readingsIn (Start clock settings p) = none
-readingsIn (Second clock readings) = some readings
-readingsIn (Stop clock cause) = none
+readingsIn e = readingsWith (carriedBy e)
 
 -- The cause of a stop.
+abbrev pub causeWith : Carried → Option ℕ
+causeWith (carried.Service x) = none
+causeWith (carried.Start settings p) = none
+causeWith (carried.Second readings) = none
+causeWith (carried.Stop cause) = some cause
+
+-- The stop's cause in an event.
 abbrev pub causeIn : Event → Option ℕ
-causeIn (PowerOn clock) = none
-causeIn (ClockSetting clock new) = none
-causeIn (WarmUp clock) = none
-causeIn (Calibration clock outcome) = none
-causeIn (Try clock outcome) = none
-causeIn (AuthorityLock clock) = none
-causeIn (AuthorityUnlock clock) = none
-causeIn (Upload clock) = none
-causeIn (Start clock settings p) = none
-causeIn (Second clock readings) = none
-causeIn (Stop clock cause) = some cause
+causeIn e = causeWith (carriedBy e)

@@ -2,3 +2,5 @@ pub mod Events
 pub mod Accepted
 pub mod Locks
 pub mod State
+pub mod Plain
+pub mod Claims

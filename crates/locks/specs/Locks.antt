@@ -1,7 +1,7 @@
 -- The seven locks, read from the accepted events, newest first, the start's clock, V and U. Document 01: "A start is locked by the
--- first standing one".
+-- first standing one". specs/Plain.antt says the same of each in plain propositions.
 use Prim.Native.Nat.{ℕ, suc, _+_}
-use mathlib.Core.Bool.{Bool, true, false, not, _||_}
+use mathlib.Core.Bool.{Bool, true, false, not, _&&_, _||_}
 use mathlib.Core.List.{List, [], _∷_}
 use mathlib.Core.Option.{Option, none, some}
 use lib.Dec.{ltb, leb, eqb}
@@ -11,24 +11,41 @@ use Rattle.locks.specs.declared.Calibration.{Calibration}
 use Rattle.locks.specs.declared.Calibration.the-variants.{Passed, Failed}
 use Rattle.locks.specs.declared.Try.{Try}
 use Rattle.locks.specs.declared.Try.the-variants.{Good, Wrong}
-use Rattle.locks.specs.Events.{calibrationIn, tryIn, Calibrating}
-use Rattle.locks.specs.Accepted.{Accepted, isKind, since, any, latestOf, latestClock}
+use Rattle.locks.specs.declared.Service.{Service}
+use Rattle.locks.specs.declared.Service.the-variants.{Nothing, NewClock, Outcome, Tried}
+use Rattle.locks.specs.declared.Event.{Event}
+use Rattle.locks.specs.declared.StandingLocks.{StandingLocks}
+use Rattle.locks.specs.Events.{kindOf, clockOf, serviceIn, calibrationIn, tryIn, Calibrating}
+use Rattle.locks.specs.Accepted.{Accepted, isKind, since, any, latestOf}
 
 -- "Power-on and clock setting void warm-up, calibration and sign-in (as none)".
-abbrev pub voiding : Accepted → Bool
-voiding a = isKind 1 a || isKind 2 a
+abbrev pub voids : ℕ → Bool
+voids kind = eqb kind 1 || eqb kind 2
 
--- A warm-up or a second.
-abbrev pub activity : Accepted → Bool
-activity a = isKind 3 a || isKind 10 a
+-- Such an accepted event.
+abbrev pub voiding : Accepted → Bool
+voiding a = voids (kindOf (a .event))
 
 -- "1 no finished warm-up"
 unfoldable pub notWarm : List Accepted → Bool
 notWarm l = not (any (isKind 3) (since voiding l))
 
--- "2 over 1,800 s since the latest warm-up or accepted second". Where there is no warm-up, or a void one, lock 1 stands before it.
+-- "the latest warm-up or accepted second"
+abbrev pub renews : ℕ → Bool
+renews kind = eqb kind 3 || eqb kind 10
+
+-- The clock of a warm-up or a second.
+unfoldable pub activeClock : Event → Option ℕ
+activeClock e = pick (renews (kindOf e)) (some (clockOf e)) none
+
+-- "over 1,800 s since"
+unfoldable pub overdue : ℕ → Option ℕ → Bool
+overdue now none = false
+overdue now (some clock) = ltb (clock + 1800) now
+
+-- "2 over 1,800 s since the latest warm-up or accepted second". Where there is none, lock 1 stands.
 unfoldable pub inactive : ℕ → List Accepted → Bool
-inactive now l = ltb (latestClock activity l + 1800) now
+inactive now l = overdue now (latestOf activeClock l)
 
 -- "3 no calibration, latest not passed, or older than V"
 unfoldable pub expired : ℕ → ℕ → ℕ → Calibration → Bool
@@ -40,9 +57,13 @@ unfoldable pub noneValid : ℕ → ℕ → Option Calibrating → Bool
 noneValid validity now none = true
 noneValid validity now (some c) = expired validity now (c .clock) (c .outcome)
 
+-- The latest calibration that is not void.
+unfoldable pub latestCalibration : List Accepted → Option Calibrating
+latestCalibration l = latestOf calibrationIn (since voiding l)
+
 -- Lock 3.
 unfoldable pub notCalibrated : ℕ → ℕ → List Accepted → Bool
-notCalibrated validity now l = noneValid validity now (latestOf calibrationIn (since voiding l))
+notCalibrated validity now l = noneValid validity now (latestCalibration l)
 
 -- "4 no try, latest not good, or its expiry before now"
 unfoldable pub noneGood : ℕ → Option Try → Bool
@@ -50,37 +71,57 @@ noneGood now none = true
 noneGood now (some (Good expiry)) = ltb expiry now
 noneGood now (some Wrong) = true
 
+-- The latest try that is not void.
+unfoldable pub latestTry : List Accepted → Option Try
+latestTry l = latestOf tryIn (since voiding l)
+
 -- Lock 4.
 unfoldable pub notSignedIn : ℕ → List Accepted → Bool
-notSignedIn now l = noneGood now (latestOf tryIn (since voiding l))
+notSignedIn now l = noneGood now (latestTry l)
 
--- The tries among them, newest first.
-unfoldable pub withTry : Option Try → List Try → List Try
-withTry none l = l
-withTry (some x) l = x ∷ l
+-- A wrong try.
+abbrev pub isWrong : Service → Bool
+isWrong Nothing = false
+isWrong (NewClock new) = false
+isWrong (Outcome outcome) = false
+isWrong (Tried (Good expiry)) = false
+isWrong (Tried Wrong) = true
 
--- The tries among accepted events, newest first.
-unfoldable pub triesIn : List Accepted → List Try
-triesIn [] = []
-triesIn (a ∷ l) = withTry (tryIn (a .event)) (triesIn l)
-
--- How many of the newest tries are wrong in a row: "a good try ends a row".
-unfoldable pub wrongRow : List Try → ℕ
-wrongRow [] = 0
-wrongRow (Good expiry ∷ l) = 0
-wrongRow (Wrong ∷ l) = suc (wrongRow l)
-
--- At some time so many were wrong in a row.
-unfoldable pub everInRow : ℕ → List Try → Bool
-everInRow n [] = false
-everInRow n (x ∷ l) = leb n (wrongRow (x ∷ l)) || everInRow n l
+-- "a good try ends a row"
+abbrev pub endsRow : Service → Bool
+endsRow Nothing = false
+endsRow (NewClock new) = false
+endsRow (Outcome outcome) = false
+endsRow (Tried (Good expiry)) = true
+endsRow (Tried Wrong) = false
 
 -- "Authority unlock clears the wrong-try row, password lock and authority lock."
+abbrev pub unlocks : ℕ → Bool
+unlocks kind = eqb kind 7
+
+-- What ends a row of wrong tries: an unlock or a good try.
+abbrev pub rowEnds : ℕ → Service → Bool
+rowEnds kind x = unlocks kind || endsRow x
+
+-- An accepted event that ends a row.
+abbrev pub rowEnd : Accepted → Bool
+rowEnd a = rowEnds (kindOf (a .event)) (serviceIn (a .event))
+
+-- How many of them are wrong tries.
+unfoldable pub wrongTries : List Accepted → ℕ
+wrongTries [] = 0
+wrongTries (a ∷ l) = pick (isWrong (serviceIn (a .event))) (suc (wrongTries l)) (wrongTries l)
+
+-- The wrong tries in a row: those since the row began.
+unfoldable pub wrongRow : List Accepted → ℕ
+wrongRow l = wrongTries (since rowEnd l)
+
 -- "5 four wrong tries in a row at any time since the last unlock (a good try ends a row but lifts no lock)"
 unfoldable pub passwordLock : List Accepted → Bool
-passwordLock l = everInRow 4 (triesIn (since (isKind 7) l))
+passwordLock [] = false
+passwordLock (a ∷ l) = not (isKind 7 a) && (leb 4 (wrongRow (a ∷ l)) || passwordLock l)
 
--- "6 authority lock"
+-- "6 authority lock", until an unlock.
 unfoldable pub authorityLock : List Accepted → Bool
 authorityLock l = any (isKind 6) (since (isKind 7) l)
 
@@ -102,16 +143,28 @@ unsentIn l = verdictsIn (since (isKind 8) l)
 unfoldable pub unsentLock : ℕ → List Accepted → Bool
 unsentLock limit l = eqb (unsentIn l) limit
 
--- The seven in their order.
-unfoldable pub locks : ℕ → ℕ → ℕ → List Accepted → List Bool
-locks validity limit now l =
-    notWarm l
-    ∷ inactive now l
-    ∷ notCalibrated validity now l
-    ∷ notSignedIn now l
-    ∷ passwordLock l
-    ∷ authorityLock l
-    ∷ unsentLock limit l
+-- Which of the seven stand.
+abbrev pub standingIn : ℕ → ℕ → ℕ → List Accepted → StandingLocks
+standingIn validity limit now l = record {
+  «not_warm» = notWarm l;
+  inactive = inactive now l;
+  «not_calibrated» = notCalibrated validity now l;
+  «not_signed_in» = notSignedIn now l;
+  password = passwordLock l;
+  authority = authorityLock l;
+  unsent = unsentLock limit l;
+}
+
+-- The seven in their order: one list, for the accepted events and for what the bench keeps.
+abbrev pub inOrder : StandingLocks → List Bool
+inOrder s =
+    s .«not_warm»
+    ∷ s .inactive
+    ∷ s .«not_calibrated»
+    ∷ s .«not_signed_in»
+    ∷ s .password
+    ∷ s .authority
+    ∷ s .unsent
     ∷ []
 
 -- The number of the first that stands, counted from n; 0 where none does.
@@ -119,6 +172,10 @@ unfoldable pub firstStanding : ℕ → List Bool → ℕ
 firstStanding n [] = 0
 firstStanding n (b ∷ l) = pick b n (firstStanding (n + 1) l)
 
--- The first standing lock's number, or 0.
+-- "A start is locked by the first standing one": its number, or 0.
+unfoldable pub lockInOrder : StandingLocks → ℕ
+lockInOrder s = firstStanding 1 (inOrder s)
+
+-- The same, from the accepted events.
 unfoldable pub lockOf : ℕ → ℕ → ℕ → List Accepted → ℕ
-lockOf validity limit now l = firstStanding 1 (locks validity limit now l)
+lockOf validity limit now l = lockInOrder (standingIn validity limit now l)

@@ -1,24 +1,25 @@
 -- What the bench keeps to tell the locks by, as the functions of this crate change it.
 use Prim.Native.Nat.{ℕ, _+_, min}
 use mathlib.Core.Bool.{Bool, true, false, not, _||_}
-use mathlib.Core.List.{[], _∷_}
 use lib.Dec.{ltb, leb, eqb}
 use Rattle.refusal.specs.Choice.{pick}
-use Rattle.locks.specs.declared.Calibration.{Calibration as Outcome}
-use Rattle.locks.specs.declared.Calibration.the-variants.{Passed, Failed}
 use Rattle.locks.specs.declared.Try.{Try as Tried}
 use Rattle.locks.specs.declared.Try.the-variants.{Good, Wrong}
 use Rattle.locks.specs.declared.Calibrated.{Calibrated}
 use Rattle.locks.specs.declared.Calibrated.the-variants.{No, At}
 use Rattle.locks.specs.declared.SignIn.{SignIn}
 use Rattle.locks.specs.declared.SignIn.the-variants.{Out, Until}
+use Rattle.locks.specs.declared.Activity.{Activity}
+use Rattle.locks.specs.declared.Activity.the-variants.{Never, Last}
+use Rattle.locks.specs.declared.Service.{Service}
+use Rattle.locks.specs.declared.Service.the-variants as service
 use Rattle.locks.specs.declared.Session.{Session}
 use Rattle.locks.specs.declared.Security.{Security}
 use Rattle.locks.specs.declared.Locks.{Locks}
+use Rattle.locks.specs.declared.StandingLocks.{StandingLocks}
 use Rattle.locks.specs.declared.Event.{Event}
-use Rattle.locks.specs.declared.Event.the-variants.{PowerOn, ClockSetting, WarmUp, Calibration, Try, AuthorityLock, AuthorityUnlock, Upload, Start, Second, Stop}
-use Rattle.locks.specs.Events.{kindOf, clockOf}
-use Rattle.locks.specs.Locks.{firstStanding}
+use Rattle.locks.specs.Events.{kindOf, clockOf, serviceIn, passed}
+use Rattle.locks.specs.Locks.{voids, renews, unlocks, isWrong, endsRow, lockInOrder}
 
 -- No warm-up, no calibration, no sign-in.
 abbrev pub noSession : Session
@@ -30,86 +31,72 @@ noSecurity = record { wrong = 0; password = false; authority = false }
 
 -- A fresh bench: nothing warmed up, calibrated, tried, locked or unsent.
 abbrev pub freshLocks : Locks
-freshLocks = record { session = noSession; active = 0; security = noSecurity; unsent = 0 }
+freshLocks = record { session = noSession; active = Never; security = noSecurity; unsent = 0 }
 
--- A finished warm-up.
-abbrev pub warmed : Session → Session
-warmed s = record { warm = true; calibrated = s .calibrated; signed = s .signed }
+-- A finished warm-up, until it is void.
+unfoldable pub warmAfter : ℕ → Bool → Bool
+warmAfter kind warm = pick (voids kind) false (eqb kind 3 || warm)
 
--- A calibration that passed stands from its clock on; another leaves none.
-abbrev pub calibratedBy : ℕ → Outcome → Calibrated
-calibratedBy clock Passed = At clock
-calibratedBy clock Failed = No
+-- A calibration that passed stands from its clock on.
+unfoldable pub calibratedBy : Bool → ℕ → Calibrated → Calibrated
+calibratedBy passed clock otherwise = pick passed (At clock) otherwise
 
--- A calibration.
-abbrev pub calibratedAt : ℕ → Outcome → Session → Session
-calibratedAt clock outcome s = record { warm = s .warm; calibrated = calibratedBy clock outcome; signed = s .signed }
+-- A calibration in place of the one before: one that did not pass leaves none.
+abbrev pub calibratedWith : ℕ → Service → Calibrated → Calibrated
+calibratedWith clock service.Nothing c = c
+calibratedWith clock (service.NewClock new) c = c
+calibratedWith clock (service.Outcome outcome) c = calibratedBy (passed outcome) clock No
+calibratedWith clock (service.Tried outcome) c = c
 
--- "A wrong try also signs out."
+-- The same, until it is void.
+unfoldable pub calibratedAfter : ℕ → ℕ → Service → Calibrated → Calibrated
+calibratedAfter kind clock x c = pick (voids kind) No (calibratedWith clock x c)
+
+-- A good try signs in until its expiry; "A wrong try also signs out."
 abbrev pub signedBy : Tried → SignIn
 signedBy (Good expiry) = Until expiry
 signedBy Wrong = Out
 
--- A good try signs in until its expiry; "A wrong try also signs out".
-abbrev pub signedAt : Tried → Session → Session
-signedAt outcome s = record { warm = s .warm; calibrated = s .calibrated; signed = signedBy outcome }
+-- A try in place of the one before.
+abbrev pub signedWith : Service → SignIn → SignIn
+signedWith service.Nothing s = s
+signedWith (service.NewClock new) s = s
+signedWith (service.Outcome outcome) s = s
+signedWith (service.Tried outcome) s = signedBy outcome
+
+-- The same, until it is void.
+unfoldable pub signedAfter : ℕ → Service → SignIn → SignIn
+signedAfter kind x s = pick (voids kind) Out (signedWith x s)
 
 -- "Power-on and clock setting void warm-up, calibration and sign-in (as none)".
-abbrev pub sessionAfter : Session → Event → Session
-sessionAfter s (PowerOn clock) = noSession
-sessionAfter s (ClockSetting clock new) = noSession
-sessionAfter s (WarmUp clock) = warmed s
-sessionAfter s (Calibration clock outcome) = calibratedAt clock outcome s
-sessionAfter s (Try clock outcome) = signedAt outcome s
-sessionAfter s (AuthorityLock clock) = s
-sessionAfter s (AuthorityUnlock clock) = s
-sessionAfter s (Upload clock) = s
-sessionAfter s (Start clock settings p) = s
-sessionAfter s (Second clock readings) = s
-sessionAfter s (Stop clock cause) = s
-
--- "the latest warm-up or accepted second"
-abbrev pub renews : ℕ → Bool
-renews kind = eqb kind 3 || eqb kind 10
-
--- Its clock.
-unfoldable pub activeAfter : ℕ → ℕ → ℕ → ℕ
-activeAfter active kind clock = pick (renews kind) clock active
-
--- Wrong tries in a row are counted up to four, which set the password lock.
-abbrev pub wrongs : ℕ → ℕ
-wrongs n = min (n + 1) 4
-
--- A wrong try: the row grows, and four in a row lock.
-abbrev pub wrongTry : Security → Security
-wrongTry s = record {
-  wrong = wrongs (s .wrong);
-  password = leb 4 (wrongs (s .wrong)) || s .password;
-  authority = s .authority;
+abbrev pub sessionAfter : Session → ℕ → ℕ → Service → Session
+sessionAfter s kind clock x = record {
+  warm = warmAfter kind (s .warm);
+  calibrated = calibratedAfter kind clock x (s .calibrated);
+  signed = signedAfter kind x (s .signed);
 }
 
--- "a good try ends a row but lifts no lock"
-abbrev pub triedBy : Tried → Security → Security
-triedBy (Good expiry) s = record { wrong = 0; password = s .password; authority = s .authority }
-triedBy Wrong s = wrongTry s
+-- "the latest warm-up or accepted second": its clock.
+unfoldable pub activeAfter : Activity → ℕ → ℕ → Activity
+activeAfter active kind clock = pick (renews kind) (Last clock) active
 
--- An authority lock.
-abbrev pub authorityLocked : Security → Security
-authorityLocked s = record { wrong = s .wrong; password = s .password; authority = true }
+-- Wrong tries in a row are counted up to four, which set the password lock.
+abbrev pub oneWrong : ℕ → ℕ
+oneWrong n = min (n + 1) 4
 
--- "Wrong tries survive both. .. Authority unlock clears the wrong-try row, password lock and authority lock."
-abbrev pub securityAfter : Security → Event → Security
-securityAfter s (PowerOn clock) = s
-securityAfter s (ClockSetting clock new) = s
-securityAfter s (WarmUp clock) = s
-securityAfter s (Calibration clock outcome) = s
-securityAfter s (Try clock outcome) = triedBy outcome s
-securityAfter s (AuthorityLock clock) = authorityLocked s
-securityAfter s (AuthorityUnlock clock) = noSecurity
-securityAfter s (Upload clock) = s
-securityAfter s (Start clock settings p) = s
-securityAfter s (Second clock readings) = s
-securityAfter s (Stop clock cause) = s
+-- "a good try ends a row"
+unfoldable pub wrongAfter : Service → ℕ → ℕ
+wrongAfter x wrong = pick (endsRow x) 0 (pick (isWrong x) (oneWrong wrong) wrong)
+
+-- "Wrong tries survive both. .. Authority unlock clears the wrong-try row, password lock and authority lock." A good try "lifts no lock".
+unfoldable pub securityAfter : Security → ℕ → Service → Security
+securityAfter s kind x =
+    pick (unlocks kind) noSecurity
+    (record {
+      wrong = wrongAfter x (s .wrong);
+      password = leb 4 (wrongAfter x (s .wrong)) || s .password;
+      authority = eqb kind 6 || s .authority;
+    })
 
 -- The verdicts since the last upload.
 unfoldable pub unsentAfter : ℕ → ℕ → ℕ
@@ -118,13 +105,13 @@ unsentAfter unsent kind = pick (eqb kind 8) 0 unsent
 -- After an accepted event, but for its verdict.
 abbrev pub locksAfter : Locks → Event → Locks
 locksAfter k e = record {
-  session = sessionAfter (k .session) e;
+  session = sessionAfter (k .session) (kindOf e) (clockOf e) (serviceIn e);
   active = activeAfter (k .active) (kindOf e) (clockOf e);
-  security = securityAfter (k .security) e;
+  security = securityAfter (k .security) (kindOf e) (serviceIn e);
   unsent = unsentAfter (k .unsent) (kindOf e);
 }
 
--- A count of one more. It is held at the greatest number of its type, which no bench reaches (demand 3, `bounded`): read + 1.
+-- One unsent verdict more. It is held at the greatest number of its type, which no bench reaches (`bench/specs/Claims: Bounded`): read + 1.
 abbrev pub oneMore : ℕ → ℕ
 oneMore n = min (n + 1) 65535
 
@@ -140,6 +127,11 @@ verdictCounted k = record {
 -- Lock 1: no finished warm-up.
 abbrev pub cold : Session → Bool
 cold s = not (s .warm)
+
+-- Lock 2: over 1,800 s since the latest activity.
+abbrev pub idle : Activity → ℕ → Bool
+idle Never now = false
+idle (Last clock) now = ltb (clock + 1800) now
 
 -- Older than V, or none.
 abbrev pub calibrationOld : ℕ → ℕ → Calibrated → Bool
@@ -163,15 +155,18 @@ signedOut now s = signInOver now (s .signed)
 abbrev pub full : ℕ → ℕ → Bool
 full unsent limit = eqb unsent limit
 
+-- Which of the seven stand for a start at this clock.
+abbrev pub standingOf : ℕ → ℕ → Locks → ℕ → StandingLocks
+standingOf validity limit k now = record {
+  «not_warm» = cold (k .session);
+  inactive = idle (k .active) now;
+  «not_calibrated» = uncalibrated validity now (k .session);
+  «not_signed_in» = signedOut now (k .session);
+  password = k .security .password;
+  authority = k .security .authority;
+  unsent = full (k .unsent) limit;
+}
+
 -- The number of the first standing lock, 0 where none stands.
 unfoldable pub lockNumber : ℕ → ℕ → Locks → ℕ → ℕ
-lockNumber validity limit k now =
-    firstStanding 1
-    (cold (k .session)
-    ∷ ltb (k .active + 1800) now
-    ∷ uncalibrated validity now (k .session)
-    ∷ signedOut now (k .session)
-    ∷ k .security .password
-    ∷ k .security .authority
-    ∷ full (k .unsent) limit
-    ∷ [])
+lockNumber validity limit k now = lockInOrder (standingOf validity limit k now)

@@ -1,41 +1,57 @@
-// What every event carries: its kind and its clock.
+// What every event has: its kind, its clock and what it carries.
 ghost use mathlib.Core.Path.{_≡_};
-ghost use Rattle.locks.specs.Events.{kindOf, clockOf, clockAfter};
+ghost use Rattle.locks.specs.Events.{described, contentsOf, clockOf, servedBy, serviceIn, clockWith, clockAfter};
+use crate::Carried;
+use crate::Contents;
 use crate::Event;
+use crate::Service;
 
-// Document 01's number of an event's kind.
-// Ruled out: a stop told as a second, and kinds counted from 0.
-pub fn kind_of(event: Event) -> u8
-    ensures { λ r. ⌜ r ≡ kindOf event ⌝ }
+// An event that is no start, second or stop.
+fn service_event(kind: u8, clock: u32, x: Service) -> Contents
+    ensures { λ r. ⌜ r ≡ described kind clock (Carried.Service x) ⌝ }
+{
+    Contents {
+        kind,
+        clock,
+        carried: Carried::Service(x),
+    }
+}
+
+// Document 01's number of an event's kind, its own clock and what it carries.
+// Ruled out: a stop told as a second, kinds counted from 0, and a clock setting's new clock for its own.
+pub fn contents_of(event: Event) -> Contents
+    ensures { λ r. ⌜ r ≡ contentsOf event ⌝ }
 {
     match event {
-        Event::PowerOn { clock: _ } => 1,
-        Event::ClockSetting {
-            clock: _,
-            new_clock: _,
-        } => 2,
-        Event::WarmUp { clock: _ } => 3,
-        Event::Calibration {
-            clock: _,
-            outcome: _,
-        } => 4,
-        Event::Try {
-            clock: _,
-            outcome: _,
-        } => 5,
-        Event::AuthorityLock { clock: _ } => 6,
-        Event::AuthorityUnlock { clock: _ } => 7,
-        Event::Upload { clock: _ } => 8,
+        Event::PowerOn { clock } => service_event(1, clock, Service::Nothing),
+        Event::ClockSetting { clock, new_clock } => {
+            service_event(2, clock, Service::NewClock(new_clock))
+        }
+        Event::WarmUp { clock } => service_event(3, clock, Service::Nothing),
+        Event::Calibration { clock, outcome } => service_event(4, clock, Service::Outcome(outcome)),
+        Event::Try { clock, outcome } => service_event(5, clock, Service::Tried(outcome)),
+        Event::AuthorityLock { clock } => service_event(6, clock, Service::Nothing),
+        Event::AuthorityUnlock { clock } => service_event(7, clock, Service::Nothing),
+        Event::Upload { clock } => service_event(8, clock, Service::Nothing),
         Event::Start {
-            clock: _,
-            settings: _,
-            saturation: _,
-        } => 9,
-        Event::Second {
-            clock: _,
-            readings: _,
-        } => 10,
-        Event::Stop { clock: _, cause: _ } => 11,
+            clock,
+            settings,
+            saturation,
+        } => Contents {
+            kind: 9,
+            clock,
+            carried: Carried::Start(settings, saturation),
+        },
+        Event::Second { clock, readings } => Contents {
+            kind: 10,
+            clock,
+            carried: Carried::Second(readings),
+        },
+        Event::Stop { clock, cause } => Contents {
+            kind: 11,
+            clock,
+            carried: Carried::Stop(cause),
+        },
     }
 }
 
@@ -44,25 +60,38 @@ pub fn kind_of(event: Event) -> u8
 pub fn clock_of(event: Event) -> u32
     ensures { λ r. ⌜ r ≡ clockOf event ⌝ }
 {
-    match event {
-        Event::PowerOn { clock } => clock,
-        Event::ClockSetting {
-            clock,
-            new_clock: _,
-        } => clock,
-        Event::WarmUp { clock } => clock,
-        Event::Calibration { clock, outcome: _ } => clock,
-        Event::Try { clock, outcome: _ } => clock,
-        Event::AuthorityLock { clock } => clock,
-        Event::AuthorityUnlock { clock } => clock,
-        Event::Upload { clock } => clock,
-        Event::Start {
-            clock,
-            settings: _,
-            saturation: _,
-        } => clock,
-        Event::Second { clock, readings: _ } => clock,
-        Event::Stop { clock, cause: _ } => clock,
+    let contents = contents_of(event);
+    contents.clock
+}
+
+// What a start, a second or a stop carries is nothing to the locks.
+fn served_by(carried: Carried) -> Service
+    ensures { λ r. ⌜ r ≡ servedBy carried ⌝ }
+{
+    match carried {
+        Carried::Service(x) => x,
+        Carried::Start(_, _) => Service::Nothing,
+        Carried::Second(_) => Service::Nothing,
+        Carried::Stop(_) => Service::Nothing,
+    }
+}
+
+pub(crate) fn service_in(event: Event) -> Service
+    ensures { λ r. ⌜ r ≡ serviceIn event ⌝ }
+{
+    let contents = contents_of(event);
+    let carried = contents.carried;
+    served_by(carried)
+}
+
+fn clock_with(x: Service, clock: u32) -> u32
+    ensures { λ r. ⌜ r ≡ clockWith x clock ⌝ }
+{
+    match x {
+        Service::Nothing => clock,
+        Service::NewClock(new) => new,
+        Service::Outcome(_) => clock,
+        Service::Tried(_) => clock,
     }
 }
 
@@ -71,24 +100,5 @@ pub fn clock_of(event: Event) -> u32
 pub fn clock_after(event: Event) -> u32
     ensures { λ r. ⌜ r ≡ clockAfter event ⌝ }
 {
-    match event {
-        Event::PowerOn { clock } => clock,
-        Event::ClockSetting {
-            clock: _,
-            new_clock,
-        } => new_clock,
-        Event::WarmUp { clock } => clock,
-        Event::Calibration { clock, outcome: _ } => clock,
-        Event::Try { clock, outcome: _ } => clock,
-        Event::AuthorityLock { clock } => clock,
-        Event::AuthorityUnlock { clock } => clock,
-        Event::Upload { clock } => clock,
-        Event::Start {
-            clock,
-            settings: _,
-            saturation: _,
-        } => clock,
-        Event::Second { clock, readings: _ } => clock,
-        Event::Stop { clock, cause: _ } => clock,
-    }
+    clock_with(service_in(event), clock_of(event))
 }

@@ -1,8 +1,9 @@
 // Document 01, "Locks of the bench": the eleven events, and what locks a start.
-// Exported: Event with its kind and its clocks; Locks, what the seven locks are read from, after each accepted event and each verdict;
-// lock_number, the first lock that stands. specs/Locks.antt reads the same locks from the list of accepted events, and
-// proofs/Kept.antt shows the two equal after every list.
+// Exported: Event, with its kind, its clocks and what it carries (Contents); Locks, what the seven locks are read from, after each
+// accepted event and each verdict; lock_number, the first lock that stands. specs/Locks.antt reads the same locks from the list of
+// accepted events, and specs/Plain.antt says in plain words when each stands.
 ghost use mathlib.Core.Path.{_≡_};
+ghost use Rattle.locks.specs.Claims.{LockClaims};
 ghost use Rattle.locks.specs.State.{freshLocks, locksAfter, verdictCounted, lockNumber};
 
 mod events;
@@ -12,9 +13,9 @@ mod validity;
 
 pub use crate::events::clock_after;
 pub use crate::events::clock_of;
-pub use crate::events::kind_of;
+pub use crate::events::contents_of;
+use crate::events::service_in;
 use crate::standing::active_after;
-use crate::standing::first_standing;
 use crate::standing::one_more;
 use crate::standing::unsent_after;
 use crate::tries::NO_SECURITY;
@@ -80,6 +81,29 @@ pub enum Event {
     },
 }
 
+// What an event that is no start, second or stop carries beside its clock.
+pub enum Service {
+    Nothing,
+    NewClock(u32),
+    Outcome(Calibration),
+    Tried(Try),
+}
+
+// What an event carries beside its clock.
+pub enum Carried {
+    Service(Service),
+    Start(Settings, u16),
+    Second(Readings),
+    Stop(u8),
+}
+
+// An event by document 01's number of its kind, its clock and what it carries.
+pub struct Contents {
+    pub kind: u8,
+    pub clock: u32,
+    pub carried: Carried,
+}
+
 // The calibration that stands: none that passed, or the clock of one that did.
 pub enum Calibrated {
     No,
@@ -99,6 +123,12 @@ pub struct Session {
     signed: SignIn,
 }
 
+// The latest warm-up or second: none, or its clock.
+pub enum Activity {
+    Never,
+    Last(u32),
+}
+
 // What authority unlock clears: the wrong tries in a row, counted up to four, password lock and authority lock.
 pub struct Security {
     wrong: u8,
@@ -106,12 +136,23 @@ pub struct Security {
     authority: bool,
 }
 
-// What the locks are read from: active is the clock of the latest warm-up or second, unsent counts verdicts since the last upload.
+// What the locks are read from; unsent counts the verdicts since the last upload.
 pub struct Locks {
     session: Session,
-    active: u32,
+    active: Activity,
     security: Security,
     unsent: u16,
+}
+
+// Which of the seven locks stand, in their order.
+pub(crate) struct StandingLocks {
+    not_warm: bool,
+    inactive: bool,
+    not_calibrated: bool,
+    not_signed_in: bool,
+    password: bool,
+    authority: bool,
+    unsent: bool,
 }
 
 // The locks of a fresh bench.
@@ -121,7 +162,7 @@ pub fn fresh_locks() -> Locks
 {
     Locks {
         session: NO_SESSION,
-        active: 0,
+        active: Activity::Never,
         security: NO_SECURITY,
         unsent: 0,
     }
@@ -132,13 +173,17 @@ pub fn fresh_locks() -> Locks
 pub fn locks_after(k: Locks, event: Event) -> Locks
     ensures { λ r. ⌜ r ≡ locksAfter k event ⌝ }
 {
+    let contents = contents_of(event);
+    let kind = contents.kind;
+    let clock = contents.clock;
+    let service = service_in(event);
     let session = k.session;
+    let active = k.active;
     let security = k.security;
-    let kind = kind_of(event);
     Locks {
-        session: session_after(session, event),
-        active: active_after(k.active, kind, clock_of(event)),
-        security: security_after(security, event),
+        session: session_after(session, kind, clock, service),
+        active: active_after(active, kind, clock),
+        security: security_after(security, kind, service),
         unsent: unsent_after(k.unsent, kind),
     }
 }
@@ -153,20 +198,12 @@ pub fn verdict_counted(k: Locks) -> Locks
     next
 }
 
-// The number of the first lock that stands for a start at this clock with V and U, 0 where none does.
+// The number of the first lock that stands for a start at this clock with V and U, 0 where none does; with it comes when each stands,
+// in plain words.
 // Ruled out: a start at the very second of the sign-in's expiry locked by 4, and lock 7 at U − 1 verdicts.
 pub fn lock_number(validity: u32, limit: u16, k: Locks, now: u32) -> u8
-    ensures { λ r. ⌜ r ≡ lockNumber validity limit k now ⌝ }
+    ensures answer { λ r. ⌜ r ≡ lockNumber validity limit k now ⌝ }
+    ensures claims { λ r. ⌜ LockClaims ⌝ }
 {
-    let session = k.session;
-    let security = k.security;
-    first_standing(
-        validity::cold(session),
-        standing::older(k.active, 1_800, now),
-        validity::uncalibrated(validity, now, session),
-        validity::signed_out(now, session),
-        security.password,
-        security.authority,
-        standing::full(k.unsent, limit),
-    )
+    standing::first_standing(standing::standing_of(validity, limit, k, now))
 }

@@ -2,9 +2,12 @@
 ghost use mathlib.Core.Path.{_≡_};
 ghost use Prim.Native.Nat.{_+_};
 ghost use lib.Dec.{ltb};
-ghost use mathlib.Core.List.{[], _∷_};
-ghost use Rattle.locks.specs.Locks.{firstStanding};
-ghost use Rattle.locks.specs.State.{renews, activeAfter, unsentAfter, oneMore, full};
+ghost use Rattle.locks.specs.Locks.{renews, lockInOrder};
+ghost use Rattle.locks.specs.State.{activeAfter, unsentAfter, oneMore, idle, full, standingOf};
+use crate::Activity;
+use crate::Locks;
+use crate::StandingLocks;
+use crate::validity;
 
 // "the latest warm-up or accepted second"
 fn renews(kind: u8) -> bool
@@ -13,12 +16,11 @@ fn renews(kind: u8) -> bool
     (kind == 3) | (kind == 10)
 }
 
-// The clock of the latest warm-up or second.
-pub(crate) fn active_after(active: u32, kind: u8, clock: u32) -> u32
+pub(crate) fn active_after(active: Activity, kind: u8, clock: u32) -> Activity
     ensures { λ r. ⌜ r ≡ activeAfter active kind clock ⌝ }
 {
     if renews(kind) {
-        return clock;
+        return Activity::Last(clock);
     }
     active
 }
@@ -47,44 +49,64 @@ pub(crate) fn older(then: u32, seconds: u32, now: u32) -> bool
     (then as u64) + (seconds as u64) < now as u64
 }
 
+// Lock 2.
+fn idle(active: Activity, now: u32) -> bool
+    ensures { λ r. ⌜ r ≡ idle active now ⌝ }
+{
+    match active {
+        Activity::Never => false,
+        Activity::Last(clock) => older(clock, 1_800, now),
+    }
+}
+
 // Lock 7.
-pub(crate) fn full(unsent: u16, limit: u16) -> bool
+fn full(unsent: u16, limit: u16) -> bool
     ensures { λ r. ⌜ r ≡ full unsent limit ⌝ }
 {
     unsent == limit
 }
 
-// The number of the first of the seven that stands, 0 where none does.
-pub(crate) fn first_standing(
-    one: bool,
-    two: bool,
-    three: bool,
-    four: bool,
-    five: bool,
-    six: bool,
-    seven: bool,
-) -> u8
-    ensures { λ r. ⌜ r ≡ firstStanding 1 (one ∷ two ∷ three ∷ four ∷ five ∷ six ∷ seven ∷ []) ⌝ }
+// The seven locks for a start at this clock.
+pub(crate) fn standing_of(validity: u32, limit: u16, k: Locks, now: u32) -> StandingLocks
+    ensures { λ r. ⌜ r ≡ standingOf validity limit k now ⌝ }
 {
-    if one {
+    let session = k.session;
+    let active = k.active;
+    let security = k.security;
+    StandingLocks {
+        not_warm: validity::cold(session),
+        inactive: idle(active, now),
+        not_calibrated: validity::uncalibrated(validity, now, session),
+        not_signed_in: validity::signed_out(now, session),
+        password: security.password,
+        authority: security.authority,
+        unsent: full(k.unsent, limit),
+    }
+}
+
+// The number of the first of the seven that stands, 0 where none does.
+pub(crate) fn first_standing(s: StandingLocks) -> u8
+    ensures { λ r. ⌜ r ≡ lockInOrder s ⌝ }
+{
+    if s.not_warm {
         return 1;
     }
-    if two {
+    if s.inactive {
         return 2;
     }
-    if three {
+    if s.not_calibrated {
         return 3;
     }
-    if four {
+    if s.not_signed_in {
         return 4;
     }
-    if five {
+    if s.password {
         return 5;
     }
-    if six {
+    if s.authority {
         return 6;
     }
-    if seven {
+    if s.unsent {
         return 7;
     }
     0

@@ -1,8 +1,9 @@
 // Wrong tries, password lock and authority lock: what authority unlock clears.
 ghost use mathlib.Core.Path.{_≡_};
-ghost use Rattle.locks.specs.State.{wrongs, wrongTry, triedBy, authorityLocked, securityAfter};
-use crate::Event;
+ghost use Rattle.locks.specs.Locks.{unlocks, isWrong, endsRow};
+ghost use Rattle.locks.specs.State.{oneWrong, wrongAfter, securityAfter};
 use crate::Security;
+use crate::Service;
 use crate::Try;
 
 pub(crate) const NO_SECURITY: Security = Security {
@@ -11,74 +12,85 @@ pub(crate) const NO_SECURITY: Security = Security {
     authority: false,
 };
 
+fn wrong_outcome(outcome: Try) -> bool
+    ensures { λ r. ⌜ r ≡ isWrong (Service.Tried outcome) ⌝ }
+{
+    match outcome {
+        Try::Good { expiry: _ } => false,
+        Try::Wrong => true,
+    }
+}
+
+// A wrong try.
+fn is_wrong(x: Service) -> bool
+    ensures { λ r. ⌜ r ≡ isWrong x ⌝ }
+{
+    match x {
+        Service::Nothing => false,
+        Service::NewClock(_) => false,
+        Service::Outcome(_) => false,
+        Service::Tried(outcome) => wrong_outcome(outcome),
+    }
+}
+
+fn good_outcome(outcome: Try) -> bool
+    ensures { λ r. ⌜ r ≡ endsRow (Service.Tried outcome) ⌝ }
+{
+    match outcome {
+        Try::Good { expiry: _ } => true,
+        Try::Wrong => false,
+    }
+}
+
+// "a good try ends a row"
+fn ends_row(x: Service) -> bool
+    ensures { λ r. ⌜ r ≡ endsRow x ⌝ }
+{
+    match x {
+        Service::Nothing => false,
+        Service::NewClock(_) => false,
+        Service::Outcome(_) => false,
+        Service::Tried(outcome) => good_outcome(outcome),
+    }
+}
+
 // One wrong try more in a row, counted up to four.
-fn wrongs(n: u8) -> u8
-    ensures { λ r. ⌜ r ≡ wrongs n ⌝ }
+fn one_wrong(n: u8) -> u8
+    ensures { λ r. ⌜ r ≡ oneWrong n ⌝ }
 {
     if n < 4 { n + 1 } else { 4 }
 }
 
-// The fourth wrong try in a row sets the password lock.
-fn wrong_try(s: Security) -> Security
-    ensures { λ r. ⌜ r ≡ wrongTry s ⌝ }
+fn wrong_after(x: Service, wrong: u8) -> u8
+    ensures { λ r. ⌜ r ≡ wrongAfter x wrong ⌝ }
 {
-    let wrong = wrongs(s.wrong);
+    if ends_row(x) {
+        return 0;
+    }
+    if is_wrong(x) {
+        return one_wrong(wrong);
+    }
+    wrong
+}
+
+// Authority unlock.
+fn unlocks(kind: u8) -> bool
+    ensures { λ r. ⌜ r ≡ unlocks kind ⌝ }
+{
+    kind == 7
+}
+
+// Authority unlock clears all three; the fourth wrong try in a row sets the password lock.
+pub(crate) fn security_after(s: Security, kind: u8, x: Service) -> Security
+    ensures { λ r. ⌜ r ≡ securityAfter s kind x ⌝ }
+{
+    let wrong = wrong_after(x, s.wrong);
+    if unlocks(kind) {
+        return NO_SECURITY;
+    }
     Security {
         wrong,
         password: (4 <= wrong) | s.password,
-        authority: s.authority,
-    }
-}
-
-// A good try ends the row and lifts no lock.
-fn tried_by(outcome: Try, s: Security) -> Security
-    ensures { λ r. ⌜ r ≡ triedBy outcome s ⌝ }
-{
-    match outcome {
-        Try::Good { expiry: _ } => Security {
-            wrong: 0,
-            password: s.password,
-            authority: s.authority,
-        },
-        Try::Wrong => wrong_try(s),
-    }
-}
-
-fn authority_locked(s: Security) -> Security
-    ensures { λ r. ⌜ r ≡ authorityLocked s ⌝ }
-{
-    let mut next = s;
-    next.authority = true;
-    next
-}
-
-pub(crate) fn security_after(s: Security, event: Event) -> Security
-    ensures { λ r. ⌜ r ≡ securityAfter s event ⌝ }
-{
-    match event {
-        Event::PowerOn { clock: _ } => s,
-        Event::ClockSetting {
-            clock: _,
-            new_clock: _,
-        } => s,
-        Event::WarmUp { clock: _ } => s,
-        Event::Calibration {
-            clock: _,
-            outcome: _,
-        } => s,
-        Event::Try { clock: _, outcome } => tried_by(outcome, s),
-        Event::AuthorityLock { clock: _ } => authority_locked(s),
-        Event::AuthorityUnlock { clock: _ } => NO_SECURITY,
-        Event::Upload { clock: _ } => s,
-        Event::Start {
-            clock: _,
-            settings: _,
-            saturation: _,
-        } => s,
-        Event::Second {
-            clock: _,
-            readings: _,
-        } => s,
-        Event::Stop { clock: _, cause: _ } => s,
+        authority: (kind == 6) | s.authority,
     }
 }

@@ -1,11 +1,15 @@
 // Warm-up, calibration and sign-in: what power-on and clock setting void.
 ghost use mathlib.Core.Path.{_≡_};
+ghost use Rattle.locks.specs.Events.{passed};
+ghost use Rattle.locks.specs.Locks.{voids};
 ghost use Rattle.locks.specs.State.{
-  warmed,
+  warmAfter,
   calibratedBy,
-  calibratedAt,
+  calibratedWith,
+  calibratedAfter,
   signedBy,
-  signedAt,
+  signedWith,
+  signedAfter,
   sessionAfter,
   cold,
   uncalibrated,
@@ -15,7 +19,7 @@ ghost use Rattle.locks.specs.State.{
 };
 use crate::Calibrated;
 use crate::Calibration;
-use crate::Event;
+use crate::Service;
 use crate::Session;
 use crate::SignIn;
 use crate::Try;
@@ -27,33 +31,61 @@ pub(crate) const NO_SESSION: Session = Session {
     signed: SignIn::Out,
 };
 
-fn warmed(s: Session) -> Session
-    ensures { λ r. ⌜ r ≡ warmed s ⌝ }
+// Power-on and clock setting.
+fn voids(kind: u8) -> bool
+    ensures { λ r. ⌜ r ≡ voids kind ⌝ }
 {
-    let mut next = s;
-    next.warm = true;
-    next
+    (kind == 1) | (kind == 2)
 }
 
-fn calibrated_by(clock: u32, outcome: Calibration) -> Calibrated
-    ensures { λ r. ⌜ r ≡ calibratedBy clock outcome ⌝ }
+fn warm_after(kind: u8, warm: bool) -> bool
+    ensures { λ r. ⌜ r ≡ warmAfter kind warm ⌝ }
+{
+    let cooled = voids(kind);
+    if cooled {
+        return false;
+    }
+    (kind == 3) | warm
+}
+
+fn passed(outcome: Calibration) -> bool
+    ensures { λ r. ⌜ r ≡ passed outcome ⌝ }
 {
     match outcome {
-        Calibration::Passed => Calibrated::At(clock),
-        Calibration::Failed => Calibrated::No,
+        Calibration::Passed => true,
+        Calibration::Failed => false,
     }
+}
+
+fn calibrated_by(passed: bool, clock: u32, otherwise: Calibrated) -> Calibrated
+    ensures { λ r. ⌜ r ≡ calibratedBy passed clock otherwise ⌝ }
+{
+    if passed {
+        return Calibrated::At(clock);
+    }
+    otherwise
 }
 
 // The latest calibration stands, whatever stood before it.
-fn calibrated_at(clock: u32, outcome: Calibration, s: Session) -> Session
-    ensures { λ r. ⌜ r ≡ calibratedAt clock outcome s ⌝ }
+fn calibrated_with(clock: u32, x: Service, calibrated: Calibrated) -> Calibrated
+    ensures { λ r. ⌜ r ≡ calibratedWith clock x calibrated ⌝ }
 {
-    let signed = s.signed;
-    Session {
-        warm: s.warm,
-        calibrated: calibrated_by(clock, outcome),
-        signed,
+    match x {
+        Service::Nothing => calibrated,
+        Service::NewClock(_) => calibrated,
+        Service::Outcome(outcome) => calibrated_by(passed(outcome), clock, Calibrated::No),
+        Service::Tried(_) => calibrated,
     }
+}
+
+fn calibrated_after(kind: u8, clock: u32, x: Service, calibrated: Calibrated) -> Calibrated
+    ensures { λ r. ⌜ r ≡ calibratedAfter kind clock x calibrated ⌝ }
+{
+    let lost = voids(kind);
+    if lost {
+        return Calibrated::No;
+    }
+    calibrated_with(clock, x, calibrated)
 }
 
 // "A wrong try also signs out."
@@ -66,42 +98,36 @@ fn signed_by(outcome: Try) -> SignIn
     }
 }
 
-fn signed_at(outcome: Try, s: Session) -> Session
-    ensures { λ r. ⌜ r ≡ signedAt outcome s ⌝ }
+fn signed_with(x: Service, signed: SignIn) -> SignIn
+    ensures { λ r. ⌜ r ≡ signedWith x signed ⌝ }
 {
-    let calibrated = s.calibrated;
-    Session {
-        warm: s.warm,
-        calibrated,
-        signed: signed_by(outcome),
+    match x {
+        Service::Nothing => signed,
+        Service::NewClock(_) => signed,
+        Service::Outcome(_) => signed,
+        Service::Tried(outcome) => signed_by(outcome),
     }
 }
 
-pub(crate) fn session_after(s: Session, event: Event) -> Session
-    ensures { λ r. ⌜ r ≡ sessionAfter s event ⌝ }
+fn signed_after(kind: u8, x: Service, signed: SignIn) -> SignIn
+    ensures { λ r. ⌜ r ≡ signedAfter kind x signed ⌝ }
 {
-    match event {
-        Event::PowerOn { clock: _ } => NO_SESSION,
-        Event::ClockSetting {
-            clock: _,
-            new_clock: _,
-        } => NO_SESSION,
-        Event::WarmUp { clock: _ } => warmed(s),
-        Event::Calibration { clock, outcome } => calibrated_at(clock, outcome, s),
-        Event::Try { clock: _, outcome } => signed_at(outcome, s),
-        Event::AuthorityLock { clock: _ } => s,
-        Event::AuthorityUnlock { clock: _ } => s,
-        Event::Upload { clock: _ } => s,
-        Event::Start {
-            clock: _,
-            settings: _,
-            saturation: _,
-        } => s,
-        Event::Second {
-            clock: _,
-            readings: _,
-        } => s,
-        Event::Stop { clock: _, cause: _ } => s,
+    let over = voids(kind);
+    if over {
+        return SignIn::Out;
+    }
+    signed_with(x, signed)
+}
+
+pub(crate) fn session_after(s: Session, kind: u8, clock: u32, x: Service) -> Session
+    ensures { λ r. ⌜ r ≡ sessionAfter s kind clock x ⌝ }
+{
+    let calibrated = s.calibrated;
+    let signed = s.signed;
+    Session {
+        warm: warm_after(kind, s.warm),
+        calibrated: calibrated_after(kind, clock, x, calibrated),
+        signed: signed_after(kind, x, signed),
     }
 }
 
@@ -129,10 +155,10 @@ pub(crate) fn uncalibrated(validity: u32, now: u32, s: Session) -> bool
     calibration_old(validity, now, c)
 }
 
-fn sign_in_over(now: u32, x: SignIn) -> bool
-    ensures { λ r. ⌜ r ≡ signInOver now x ⌝ }
+fn sign_in_over(now: u32, signed: SignIn) -> bool
+    ensures { λ r. ⌜ r ≡ signInOver now signed ⌝ }
 {
-    match x {
+    match signed {
         SignIn::Out => true,
         SignIn::Until(expiry) => expiry < now,
     }
@@ -142,6 +168,6 @@ fn sign_in_over(now: u32, x: SignIn) -> bool
 pub(crate) fn signed_out(now: u32, s: Session) -> bool
     ensures { λ r. ⌜ r ≡ signedOut now s ⌝ }
 {
-    let x = s.signed;
-    sign_in_over(now, x)
+    let signed = s.signed;
+    sign_in_over(now, signed)
 }

@@ -10,12 +10,12 @@ use Rattle.correction.specs.Dilution.{dcfOf}
 use Rattle.correction.specs.Humidity.{kH}
 use Rattle.correction.proofs.Ranges.{k-dry}
 use Rattle.vehicle.specs.Driving.{inTolerance}
-use Rattle.locks.specs.Accepted.{since, any, orElse, latestOf, latestClock}
-use Rattle.locks.specs.Locks.{notWarm, inactive, expired, noneValid, notCalibrated, noneGood, notSignedIn, withTry, triesIn, wrongRow, everInRow, passwordLock, authorityLock, withVerdict, verdictsIn, unsentIn, unsentLock, locks, firstStanding, lockOf}
-use Rattle.worked.specs.Cases.{gases, wrongTries, Worked}
+use Rattle.locks.specs.Accepted.{since, any, orElse, latestOf}
+use Rattle.locks.specs.Locks.{notWarm, activeClock, overdue, inactive, expired, noneValid, latestCalibration, notCalibrated, noneGood, latestTry, notSignedIn, wrongTries, wrongRow, passwordLock, authorityLock, withVerdict, verdictsIn, unsentIn, unsentLock, firstStanding, lockInOrder, lockOf}
+use Rattle.worked.specs.Cases.{gases, wrongTries as triedWrong, Worked}
 
 pub worked : Worked
-unfolding ofBits ofFields odd pick readingOf accepted halfUp unitCount judgedOf keep secondFrom secondOf gases quotient.halfUp dcfOf kH inTolerance wrongTries since any orElse latestOf latestClock notWarm inactive expired noneValid notCalibrated noneGood notSignedIn withTry triesIn wrongRow everInRow passwordLock authorityLock withVerdict verdictsIn unsentIn unsentLock locks firstStanding lockOf
+unfolding ofBits ofFields odd pick readingOf accepted halfUp unitCount judgedOf keep secondFrom secondOf gases quotient.halfUp dcfOf kH inTolerance triedWrong since any orElse latestOf notWarm activeClock overdue inactive expired noneValid latestCalibration notCalibrated noneGood latestTry notSignedIn wrongTries wrongRow passwordLock authorityLock withVerdict verdictsIn unsentIn unsentLock firstStanding lockInOrder lockOf
 worked = record {
   coBits = refl;
   coNegative = refl;

@@ -2,6 +2,7 @@
 use Rattle.loaded_test.specs.Steps.{begin, begunBy}
 use mathlib.Core.Path.{_∙_}
 use borrow.Author.Needs.{needs}
+use Rattle.loaded_test.proofs.Claimed.{test-claims}
 use Rattle.loaded_test.proofs.begin.Statement.{statement}
 use Rattle.loaded_test.proofs.begin.Tie as tie
 
@@ -28,11 +29,11 @@ start-of-requires-2 c κs = search needs
 
 returns : tie.Need-returns
 unfolding begin begunBy
-returns c = simp (← c .before .before .before .before .before .checked-of .ensures .0, c .before .before .before .checked .given .1) (c .start-of .ensures ∙ simp (c .before .began .ensures))
+returns c = (simp (← c .before .before .before .before .before .checked-of .ensures .0, c .before .before .before .checked .given .1) (c .start-of .ensures ∙ simp (c .before .began .ensures)), test-claims)
 
 returns-2 : tie.Need-returns-2
 unfolding begin begunBy
-returns-2 c = simp (← c .before .before .before .before .before .checked-of .ensures .0, c .before .before .before .checked2 .given .1) (c .start-of2 .ensures ∙ simp (c .before .none-running .ensures))
+returns-2 c = (simp (← c .before .before .before .before .before .checked-of .ensures .0, c .before .before .before .checked2 .given .1) (c .start-of2 .ensures ∙ simp (c .before .none-running .ensures)), test-claims)
 
 pub begin-spec : {M : Type 1} → statement M
 begin-spec =

@@ -1,64 +1,76 @@
 -- `second` meets its contract. Assumes nothing.
-use mathlib.Core.Path.{_∙_, sym}
-use Rattle.loaded_test.proofs.Stages.{at-none, at-rest, in-attempt}
-use Rattle.loaded_test.specs.Steps.{second}
+use Rattle.loaded_test.specs.Steps.{secondAt}
+use Rattle.loaded_test.proofs.Refusing.{second-carries}
 use borrow.Author.Needs.{needs}
-use borrow.Author.Tests.{not-true, not-false}
 use Rattle.loaded_test.proofs.second.Statement.{statement}
 use Rattle.loaded_test.proofs.second.Tie as tie
 
-is-running-requires : tie.Need-is-running-requires
-is-running-requires c κs = search needs
+enum-told : tie.Need-enum-told
+enum-told c = search needs
 
 refused-requires : tie.Need-refused-requires
 refused-requires c κs = search needs
 
+enum-told-2 : tie.Need-enum-told-2
+enum-told-2 c = search needs
+
+in-settling-requires : tie.Need-in-settling-requires
+in-settling-requires c κs = search needs
+
+enum-told-3 : tie.Need-enum-told-3
+enum-told-3 c = search needs
+
+in-measuring-requires : tie.Need-in-measuring-requires
+in-measuring-requires c κs = search needs
+
+enum-told-4 : tie.Need-enum-told-4
+enum-told-4 c = search needs
+
+in-rest-requires : tie.Need-in-rest-requires
+in-rest-requires c κs = search needs
+
+enum-told-5 : tie.Need-enum-told-5
+enum-told-5 c = search needs
+
+refused-requires-2 : tie.Need-refused-requires-2
+refused-requires-2 c κs = search needs
+
 returns : tie.Need-returns
-unfolding second
-returns c = c .refused .ensures ∙ sym (at-none _ _ _ (sym (c .before .before .is-running .ensures) ∙ not-true _ (c .before .if1 .taken)))
-
-is-resting-requires : tie.Need-is-resting-requires
-is-resting-requires c κs = search needs
-
-rest-count-requires : tie.Need-rest-count-requires
-rest-count-requires c κs = search needs
-
-rested-requires : tie.Need-rested-requires
-rested-requires c κs = search needs
-
-stepped-requires : tie.Need-stepped-requires
-stepped-requires c κs = search needs
+unfolding secondAt
+returns c = second-carries _ _ _ _ (c .before .enum-told .given .1) (c .refused .ensures)
 
 returns-2 : tie.Need-returns-2
-unfolding second
-returns-2 c = c .stepped .ensures ∙ (simp (c .before .rested .ensures, c .before .before .rest-count .ensures)) ∙ sym (at-rest _ _ _ (sym (c .before .before .before .before .is-resting .ensures) ∙ c .before .before .before .if2 .taken))
-
-screened-requires : tie.Need-screened-requires
-screened-requires c κs = search needs
-
-is-measuring-requires : tie.Need-is-measuring-requires
-is-measuring-requires c κs = search needs
-
-in-attempt-requires : tie.Need-in-attempt-requires
-in-attempt-requires c κs = search needs
+unfolding secondAt
+returns-2 c = second-carries _ _ _ _ (c .before .enum-told2 .given .1) (c .in-settling .ensures)
 
 returns-3 : tie.Need-returns-3
-unfolding second
-returns-3 c = c .in-attempt .ensures ∙ (simp (c .before .before .screened .ensures .0, c .before .is-measuring .ensures)) ∙ sym (in-attempt _ _ _ (sym (c .before .before .before .before .before .before .is-running .ensures) ∙ not-false _ (c .before .before .before .before .before .if1 .left)) (sym (c .before .before .before .before .is-resting .ensures) ∙ c .before .before .before .if2 .left))
+unfolding secondAt
+returns-3 c = second-carries _ _ _ _ (c .before .enum-told3 .given .1) (c .in-measuring .ensures)
+
+returns-4 : tie.Need-returns-4
+unfolding secondAt
+returns-4 c = second-carries _ _ _ _ (c .before .enum-told4 .given .1) (c .in-rest .ensures)
+
+returns-5 : tie.Need-returns-5
+unfolding secondAt
+returns-5 c = second-carries _ _ _ _ (c .before .enum-told5 .given .1) (c .refused2 .ensures)
 
 pub second-spec : {M : Type 1} → statement M
 second-spec =
     tie.close
     (tie.spec
-    is-running-requires
+    enum-told
     refused-requires
+    enum-told-2
+    in-settling-requires
+    enum-told-3
+    in-measuring-requires
+    enum-told-4
+    in-rest-requires
+    enum-told-5
+    refused-requires-2
     returns
-    is-resting-requires
-    rest-count-requires
-    rested-requires
-    stepped-requires
     returns-2
-    screened-requires
-    is-measuring-requires
-    in-attempt-requires
-    returns-3)
+    returns-3
+    returns-4
+    returns-5)

@@ -4,6 +4,7 @@ use Rattle.refusal.specs.Choice.{pick}
 use mathlib.Core.Path.{_∙_}
 use borrow.Author.Needs.{needs}
 use borrow.Author.Tests.{not-true, not-false}
+use Rattle.loaded_test.proofs.Refusing.{stop-carries}
 use Rattle.loaded_test.proofs.stop.Statement.{statement}
 use Rattle.loaded_test.proofs.stop.Tie as tie
 
@@ -15,7 +16,7 @@ refused-requires c κs = search needs
 
 returns : tie.Need-returns
 unfolding stop pick
-returns c = simp (← c .before .before .is-running .ensures, not-true (c .before .before .is-running .result) (c .before .if1 .taken)) (c .refused .ensures)
+returns c = stop-carries (c .before .before .before .before .args .test) (c .before .before .before .before .args .cause) _ (simp (← c .before .before .is-running .ensures, not-true (c .before .before .is-running .result) (c .before .if1 .taken)) (c .refused .ensures))
 
 cause-fit-requires : tie.Need-cause-fit-requires
 cause-fit-requires c κs = search needs
@@ -31,14 +32,14 @@ stepped-requires c κs = search needs
 
 returns-2 : tie.Need-returns-2
 unfolding stop pick
-returns-2 c = simp (← c .before .before .before .before .before .before .is-running .ensures, not-false (c .before .before .before .before .before .before .is-running .result) (c .before .before .before .before .before .if1 .left), ← c .before .before .before .before .cause-fit .ensures, c .before .before .before .if2 .taken) (c .stepped .ensures ∙ simp (c .before .stop-taken .ensures, c .before .before .is-resting .ensures))
+returns-2 c = stop-carries (c .before .before .before .before .before .before .before .before .args .test) (c .before .before .before .before .before .before .before .before .args .cause) _ (simp (← c .before .before .before .before .before .before .is-running .ensures, not-false (c .before .before .before .before .before .before .is-running .result) (c .before .before .before .before .before .if1 .left), ← c .before .before .before .before .cause-fit .ensures, c .before .before .before .if2 .taken) (c .stepped .ensures ∙ simp (c .before .stop-taken .ensures, c .before .before .is-resting .ensures)))
 
 refused-requires-2 : tie.Need-refused-requires-2
 refused-requires-2 c κs = search needs
 
 returns-3 : tie.Need-returns-3
 unfolding stop pick
-returns-3 c = simp (← c .before .before .before .before .is-running .ensures, not-false (c .before .before .before .before .is-running .result) (c .before .before .before .if1 .left), ← c .before .before .cause-fit .ensures, c .before .if2 .left) (c .refused2 .ensures)
+returns-3 c = stop-carries (c .before .before .before .before .before .before .args .test) (c .before .before .before .before .before .before .args .cause) _ (simp (← c .before .before .before .before .is-running .ensures, not-false (c .before .before .before .before .is-running .result) (c .before .before .before .if1 .left), ← c .before .before .cause-fit .ensures, c .before .if2 .left) (c .refused2 .ensures))
 
 pub stop-spec : {M : Type 1} → statement M
 stop-spec =

@@ -11,7 +11,7 @@ test-taken-requires : tie.Need-test-taken-requires
 test-taken-requires c κs = search needs
 
 returns : tie.Need-returns
-returns c = c .test-taken .ensures ∙ simp (c .before .second .ensures)
+returns c = c .test-taken .ensures ∙ simp (c .before .second .ensures .0)
 
 pub second-fit-spec : {M : Type 1} → statement M
 second-fit-spec = tie.close (tie.spec second-requires test-taken-requires returns)

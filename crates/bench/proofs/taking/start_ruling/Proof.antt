@@ -17,7 +17,7 @@ first-refusal-requires : tie.Need-first-refusal-requires
 first-refusal-requires c κs = search needs
 
 returns : tie.Need-returns
-returns c = c .first-refusal .ensures ∙ simp (c .before .before .fitness .ensures, c .before .lock-ruling .ensures, c .before .before .before .lock-number .ensures)
+returns c = c .first-refusal .ensures ∙ simp (c .before .before .fitness .ensures, c .before .lock-ruling .ensures, c .before .before .before .lock-number .ensures .0)
 
 pub start-ruling-spec : {M : Type 1} → statement M
 start-ruling-spec =

@@ -13,7 +13,7 @@ test-taken-requires c κs = search needs
 
 returns : tie.Need-returns
 unfolding stopTaken
-returns c = c .test-taken .ensures ∙ simp (c .before .stop .ensures)
+returns c = c .test-taken .ensures ∙ simp (c .before .stop .ensures .0)
 
 pub stop-taken-spec : {M : Type 1} → statement M
 stop-taken-spec = tie.close (tie.spec stop-requires test-taken-requires returns)

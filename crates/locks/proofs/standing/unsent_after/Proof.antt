@@ -1,14 +1,15 @@
--- `locks::standing::unsent_after` meets its contract. Assumes nothing.
-use Rattle.locks.specs.State.{unsentAfter}
 use borrow.Author.Tests.{eq-eqb, ne-eqb}
 use Rattle.refusal.specs.Choice.{pick}
+use Rattle.locks.specs.State.{unsentAfter}
 use Rattle.locks.proofs.standing.unsent_after.Statement.{statement}
 use Rattle.locks.proofs.standing.unsent_after.Tie as tie
 
+-- src/standing.rt:33:9
 returns : tie.Need-returns
 unfolding unsentAfter pick
 returns c = simp (eq-eqb _ _ (c .if1 .taken))
 
+-- src/standing.rt:29:1
 returns-2 : tie.Need-returns-2
 unfolding unsentAfter pick
 returns-2 c = simp (ne-eqb _ _ (c .if1 .left))

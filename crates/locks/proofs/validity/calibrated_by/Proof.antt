@@ -1,19 +1,17 @@
--- `locks::validity::calibrated_by` meets its contract. Assumes nothing.
-use borrow.Author.Needs.{needs}
+use Rattle.refusal.specs.Choice.{pick}
+use Rattle.locks.specs.State.{calibratedBy}
 use Rattle.locks.proofs.validity.calibrated_by.Statement.{statement}
 use Rattle.locks.proofs.validity.calibrated_by.Tie as tie
 
-enum-told : tie.Need-enum-told
-enum-told c = search needs
-
-enum-told-2 : tie.Need-enum-told-2
-enum-told-2 c = search needs
-
+-- src/validity.rt:64:9
 returns : tie.Need-returns
-returns c = simp (c .enum-told .given .1)
+unfolding calibratedBy pick
+returns c = simp (c .if1 .taken)
 
+-- src/validity.rt:60:1
 returns-2 : tie.Need-returns-2
-returns-2 c = search needs
+unfolding calibratedBy pick
+returns-2 c = simp (c .if1 .left)
 
 pub calibrated-by-spec : {M : Type 1} → statement M
-calibrated-by-spec = tie.close (tie.spec enum-told enum-told-2 returns returns-2)
+calibrated-by-spec = tie.close (tie.spec returns returns-2)

@@ -1,0 +1,491 @@
+-- Each lock, as it is computed from the accepted events, stands exactly if its plain proposition holds. Assumes nothing.
+use Prim.Native.Nat.{ℕ, zero, suc, _+_, _≤_, _<_}
+use native.Mathlib.Omega.{arith}
+use mathlib.Core.Bool.{Bool, true, false, not, _&&_, _||_, false≢true, true≢false}
+use mathlib.Core.Path.{_≡_, refl, ap, sym, _∙_}
+use mathlib.Core.List.{List, [], _∷_, _++_}
+use mathlib.Core.Logic.{_⊎_, inl, inr, _↔_}
+use mathlib.Core.Option.{Option, none, some}
+use lib.Dec.{ltb, leb, eqb}
+use borrow.Author.Tests.{leb-true, leb-false, le-leb, lt-leb, ltb-false, le-ltb, eqb-true, eqb-false, eq-eqb, ne-eqb, not-true}
+use Rattle.refusal.specs.Choice.{pick}
+use Rattle.refusal.proofs.Exactly.{ltb-exactly, eqb-exactly, and-exactly, or-exactly, not-exactly}
+use Rattle.locks.specs.declared.Calibration.{Calibration as Outcome}
+use Rattle.locks.specs.declared.Calibration.the-variants.{Passed, Failed}
+use Rattle.locks.specs.declared.Try.{Try as Tried}
+use Rattle.locks.specs.declared.Try.the-variants.{Good, Wrong}
+use Rattle.locks.specs.declared.Event.{Event}
+use Rattle.locks.specs.declared.Event.the-variants.{PowerOn, ClockSetting, WarmUp, Calibration, Try, AuthorityLock, AuthorityUnlock, Upload, Start, Second, Stop}
+use Rattle.locks.specs.Events.{kindOf, clockOf, serviceIn, calibrationIn, tryIn, Calibrating}
+use Rattle.locks.specs.Accepted.{Accepted, isKind, since, any, orElse, latestOf}
+use Rattle.locks.specs.Locks.{voids, voiding, renews, notWarm, activeClock, overdue, inactive, expired, noneValid, latestCalibration, notCalibrated, noneGood, latestTry, notSignedIn, isWrong, endsRow, rowEnd, wrongTries, wrongRow, passwordLock, authorityLock, verdictsIn, unsentIn, unsentLock}
+use Rattle.locks.specs.Plain.{IsKind, Voids, NoneIs, Has, NotWarm, Active, ActiveBefore, Inactive, PassedWithin, CalibratesOrVoids, NotCalibrated, GoodWithin, TriesOrVoids, NotSignedIn, WrongTry, GoodTry, Unlocks, EndsRow, WrongInRow, PasswordLocked, AuthorityLocked, Uploads, Unsent}
+use Rattle.locks.specs.Claims.{LockClaims}
+use Rattle.locks.proofs.Kept.{any-since, latest-since, wrong-since}
+use Rattle.locks.proofs.Found.{Found, found-here, found-later, found-exactly}
+
+-- Where nothing is asked of the events before.
+abbrev All : List Accepted → Type 0
+All l = Unit {0}
+
+always : (l : List Accepted) → (true ≡ true) ↔ All l
+always l = ((λ _. tt), (λ _. refl))
+
+-- Such an event stands, or not.
+has-exactly : {P Q : Accepted → Type 0} (b : Bool) (l : List Accepted) → (b ≡ true) ↔ Found P Q All l → (b ≡ true) ↔ Has P Q l
+has-exactly b l h = ((λ e. h .0 e .0), (λ x. h .1 (x, tt)))
+
+is-kind : (n : ℕ) (a : Accepted) → (isKind n a ≡ true) ↔ IsKind n a
+is-kind n a = eqb-exactly (kindOf (a .event)) n
+
+is-voiding : (a : Accepted) → (voiding a ≡ true) ↔ Voids a
+is-voiding a = or-exactly (isKind 1 a) (isKind 2 a) (is-kind 1 a) (is-kind 2 a)
+
+-- An event of one kind since one of another.
+any-exactly :
+    (n : ℕ) (q : Accepted → Bool) (Q : Accepted → Type 0) →
+    ((a : Accepted) → (q a ≡ true) ↔ Q a) →
+    ((a : Accepted) → isKind n a ≡ true → q a ≡ false) →
+    (l : List Accepted) →
+    (any (isKind n) (since q l) ≡ true) ↔ Has (IsKind n) Q l
+unfolding any since pick
+any-exactly n q Q such apart l =
+    has-exactly _ l
+    (found-exactly (IsKind n) Q All (λ l. any (isKind n) (since q l)) (λ _. true) (isKind n) q refl step (is-kind n) such always l)
+  where
+    go : (a : Accepted) (f b c : Bool) → isKind n a ≡ b → q a ≡ c → pick c false (b || f) ≡ b && true || not c && f
+    go a f true true hb hc = absurd (true≢false (sym hc ∙ apart a hb))
+    go a f true false hb hc = refl
+    go a f false true hb hc = refl
+    go a f false false hb hc = refl
+
+    step : (a : Accepted) (l : List Accepted) → any (isKind n) (since q (a ∷ l)) ≡ isKind n a && true || not (q a) && any (isKind n) (since q l)
+    step a l = any-since (isKind n) q a l ∙ go a (any (isKind n) (since q l)) (isKind n a) (q a) refl refl
+
+-- Lock 1.
+warm-up : (l : List Accepted) → (notWarm l ≡ true) ↔ NotWarm l
+unfolding notWarm
+warm-up l = not-exactly _ (any-exactly 3 voiding Voids is-voiding apart l)
+  where
+    apart : (a : Accepted) → isKind 3 a ≡ true → voiding a ≡ false
+    apart a h = rw (eqb-true (kindOf (a .event)) 3 h)
+
+-- Lock 2.
+is-active : (a : Accepted) → (renews (kindOf (a .event)) ≡ true) ↔ Active a
+is-active a = or-exactly (isKind 3 a) (isKind 10 a) (is-kind 3 a) (is-kind 10 a)
+
+activity : (now : ℕ) (l : List Accepted) → (inactive now l ≡ true) ↔ Inactive now l
+unfolding inactive latestOf activeClock overdue orElse pick
+activity now l =
+    has-exactly _ l
+    (found-exactly (ActiveBefore now) Active All (λ l. inactive now l) (λ _. true)
+    (λ a. renews (kindOf (a .event)) && ltb (clockOf (a .event) + 1800) now)
+    (λ a. renews (kindOf (a .event)))
+    refl
+    (λ a l. go (clockOf (a .event)) (latestOf activeClock l) (renews (kindOf (a .event))) (ltb (clockOf (a .event) + 1800) now) refl)
+    (λ a. and-exactly _ _ (is-active a) (ltb-exactly (clockOf (a .event) + 1800) now))
+    is-active always l)
+  where
+    go :
+        (clock : ℕ) (o : Option ℕ) (b c : Bool) →
+        ltb (clock + 1800) now ≡ c →
+        overdue now (orElse (pick b (some clock) none) o) ≡ (b && c) && true || not b && overdue now o
+    go clock o true true h = h
+    go clock o true false h = h
+    go clock o false c h = refl
+
+-- An event by what it has to do with calibrations and tries.
+pub record Other (e : Event) : Type 0 where
+  pub noCalibration : calibrationIn e ≡ none
+  pub noTry : tryIn e ≡ none
+  pub notWrong : isWrong (serviceIn e) ≡ false
+  pub endsNone : endsRow (serviceIn e) ≡ false
+  pub notFour : eqb (kindOf e) 4 ≡ false
+  pub notFive : eqb (kindOf e) 5 ≡ false
+
+data View : Event → Type 0 where
+  calibrates : (clock : ℕ) (outcome : Outcome) → View (Calibration clock outcome)
+  tries : (clock : ℕ) (outcome : Tried) → View (Try clock outcome)
+  other : (e : Event) → Other e → View e
+
+plain :
+    (e : Event) →
+    calibrationIn e ≡ none →
+    tryIn e ≡ none →
+    isWrong (serviceIn e) ≡ false →
+    endsRow (serviceIn e) ≡ false →
+    eqb (kindOf e) 4 ≡ false →
+    eqb (kindOf e) 5 ≡ false →
+    View e
+plain e a b c d f g =
+    other e (record { noCalibration = a; noTry = b; notWrong = c; endsNone = d; notFour = f; notFive = g })
+
+view : (e : Event) → View e
+view (PowerOn clock) = plain (PowerOn clock) refl refl refl refl refl refl
+view (ClockSetting clock new) = plain (ClockSetting clock new) refl refl refl refl refl refl
+view (WarmUp clock) = plain (WarmUp clock) refl refl refl refl refl refl
+view (Calibration clock outcome) = calibrates clock outcome
+view (Try clock outcome) = tries clock outcome
+view (AuthorityLock clock) = plain (AuthorityLock clock) refl refl refl refl refl refl
+view (AuthorityUnlock clock) = plain (AuthorityUnlock clock) refl refl refl refl refl refl
+view (Upload clock) = plain (Upload clock) refl refl refl refl refl refl
+view (Start clock settings p) = plain (Start clock settings p) refl refl refl refl refl refl
+view (Second clock readings) = plain (Second clock readings) refl refl refl refl refl refl
+view (Stop clock cause) = plain (Stop clock cause) refl refl refl refl refl refl
+
+-- A lock that stands exactly where nothing lifts it.
+lifted-exactly : {P : Type 0} (x : Bool) → (not x ≡ true) ↔ P → (x ≡ true) ↔ (P → ⊥)
+lifted-exactly true h = ((λ e p. absurd (false≢true (h .1 p))), (λ _. refl))
+lifted-exactly false h = ((λ e. absurd (false≢true e)), (λ n. absurd (n (h .0 refl))))
+
+not-and-none : (v : Bool) → not v && false ≡ false
+not-and-none true = refl
+not-and-none false = refl
+
+-- Lock 3.
+module _ (validity now : ℕ) where
+  passes : Option Calibrating → Bool
+  passes none = false
+  passes (some c) = not (expired validity now (c .clock) (c .outcome))
+
+  valid : List Accepted → Bool
+  valid l = not (noneValid validity now (latestCalibration l))
+
+  isPassed : Accepted → Bool
+  isPassed a = not (voiding a) && passes (calibrationIn (a .event))
+
+  calibrates-or-voids : (a : Accepted) → (isKind 4 a || voiding a ≡ true) ↔ CalibratesOrVoids a
+  calibrates-or-voids a = or-exactly (isKind 4 a) (voiding a) (is-kind 4 a) (is-voiding a)
+
+  calibration-step :
+      (a : Accepted) (o : Option Calibrating) →
+      View (a .event) →
+      not (noneValid validity now (pick (voiding a) none (orElse (calibrationIn (a .event)) o)))
+      ≡ isPassed a && true || not (isKind 4 a || voiding a) && not (noneValid validity now o)
+  unfolding isPassed passes noneValid orElse pick
+  calibration-step a o w = go (a .event) w
+    where
+      last :
+          (b : Bool) →
+          not b ≡ (true && not b) && true || false
+      last true = refl
+      last false = refl
+
+      rest :
+          (v : Bool) (k : Bool) →
+          k ≡ false →
+          not (noneValid validity now (pick v none o)) ≡ (not v && false) && true || not (k || v) && not (noneValid validity now o)
+      rest true false h = refl
+      rest false false h = refl
+      rest v true h = absurd (true≢false h)
+
+      go :
+          (e : Event) →
+          View e →
+          not (noneValid validity now (pick (voids (kindOf e)) none (orElse (calibrationIn e) o)))
+          ≡ (not (voids (kindOf e)) && passes (calibrationIn e)) && true
+          || not (eqb (kindOf e) 4 || voids (kindOf e)) && not (noneValid validity now o)
+      go (Calibration _ _) (calibrates clock outcome) = last (expired validity now clock outcome)
+      go (Try _ _) (tries clock outcome) = refl
+      go e (other _ h) = rw (h .noCalibration) (rest (voids (kindOf e)) (eqb (kindOf e) 4) (h .notFour))
+
+  passed-exactly : (a : Accepted) → (isPassed a ≡ true) ↔ PassedWithin validity now a
+  unfolding isPassed passes expired
+  passed-exactly a = ((λ h. found (a .event) refl (view (a .event)) h), back)
+    where
+      found :
+          (e : Event) →
+          a .event ≡ e →
+          View e →
+          not (voids (kindOf e)) && passes (calibrationIn e) ≡ true →
+          PassedWithin validity now a
+      found (Calibration _ _) s (calibrates clock Passed) h =
+          record { clock = clock; passed = s; valid = ltb-false (clock + validity) now (not-true _ h) }
+      found (Calibration _ _) s (calibrates clock Failed) h = absurd (false≢true h)
+      found (Try _ _) s (tries clock outcome) h = absurd (false≢true h)
+      found e s (other _ x) h =
+          absurd (false≢true (sym (not-and-none (voids (kindOf e))) ∙ sym (ap (λ o. not (voids (kindOf e)) && passes o) (x .noCalibration)) ∙ h))
+
+      back : PassedWithin validity now a → not (voids (kindOf (a .event))) && passes (calibrationIn (a .event)) ≡ true
+      back x = rw (x .passed, le-ltb (x .clock + validity) now (x .valid))
+
+  none-valid : valid [] ≡ false
+  unfolding valid latestCalibration since latestOf noneValid
+  none-valid = refl
+
+  calibration : (l : List Accepted) → (notCalibrated validity now l ≡ true) ↔ NotCalibrated validity now l
+  unfolding notCalibrated valid latestCalibration
+  calibration l =
+      lifted-exactly _
+      (has-exactly _ l
+      (found-exactly (PassedWithin validity now) CalibratesOrVoids All valid (λ _. true) isPassed (λ a. isKind 4 a || voiding a)
+      none-valid step passed-exactly calibrates-or-voids always l))
+    where
+      step :
+          (a : Accepted) (l : List Accepted) →
+          valid (a ∷ l) ≡ isPassed a && true || not (isKind 4 a || voiding a) && valid l
+      step a l = rw (latest-since calibrationIn) (calibration-step a (latestOf calibrationIn (since voiding l)) (view (a .event)))
+
+-- Lock 4.
+module _ (now : ℕ) where
+  good : Option Tried → Bool
+  good o = not (noneGood now o)
+
+  isGood : Accepted → Bool
+  isGood a = not (voiding a) && good (tryIn (a .event))
+
+  tries-or-voids : (a : Accepted) → (isKind 5 a || voiding a ≡ true) ↔ TriesOrVoids a
+  tries-or-voids a = or-exactly (isKind 5 a) (voiding a) (is-kind 5 a) (is-voiding a)
+
+  try-step :
+      (a : Accepted) (o : Option Tried) →
+      View (a .event) →
+      good (pick (voiding a) none (orElse (tryIn (a .event)) o))
+      ≡ isGood a && true || not (isKind 5 a || voiding a) && good o
+  unfolding isGood good noneGood orElse pick
+  try-step a o w = go (a .event) w
+    where
+      last : (b : Bool) → b ≡ (true && b) && true || false
+      last true = refl
+      last false = refl
+
+      rest :
+          (v k : Bool) → k ≡ false → good (pick v none o) ≡ (not v && false) && true || not (k || v) && good o
+      rest true false h = refl
+      rest false false h = refl
+      rest v true h = absurd (true≢false h)
+
+      go :
+          (e : Event) →
+          View e →
+          good (pick (voids (kindOf e)) none (orElse (tryIn e) o))
+          ≡ (not (voids (kindOf e)) && good (tryIn e)) && true || not (eqb (kindOf e) 5 || voids (kindOf e)) && good o
+      go (Calibration _ _) (calibrates clock outcome) = refl
+      go (Try _ _) (tries clock outcome) = last (not (noneGood now (some outcome)))
+      go e (other _ h) = rw (h .noTry) (rest (voids (kindOf e)) (eqb (kindOf e) 5) (h .notFive))
+
+  good-exactly : (a : Accepted) → (isGood a ≡ true) ↔ GoodWithin now a
+  unfolding isGood good noneGood
+  good-exactly a = ((λ h. found (a .event) refl (view (a .event)) h), back)
+    where
+      found :
+          (e : Event) →
+          a .event ≡ e →
+          View e →
+          not (voids (kindOf e)) && good (tryIn e) ≡ true →
+          GoodWithin now a
+      found (Calibration _ _) s (calibrates clock outcome) h = absurd (false≢true h)
+      found (Try _ _) s (tries clock (Good expiry)) h =
+          record { clock = clock; expiry = expiry; good = s; valid = ltb-false expiry now (not-true _ h) }
+      found (Try _ _) s (tries clock Wrong) h = absurd (false≢true h)
+      found e s (other _ x) h =
+          absurd (false≢true (sym (not-and-none (voids (kindOf e))) ∙ sym (ap (λ o. not (voids (kindOf e)) && good o) (x .noTry)) ∙ h))
+
+      back : GoodWithin now a → not (voids (kindOf (a .event))) && good (tryIn (a .event)) ≡ true
+      back x = rw (x .good, le-ltb (x .expiry) now (x .valid))
+
+  none-good : good (latestTry []) ≡ false
+  unfolding good latestTry since latestOf noneGood
+  none-good = refl
+
+  sign-in : (l : List Accepted) → (notSignedIn now l ≡ true) ↔ NotSignedIn now l
+  unfolding notSignedIn good latestTry
+  sign-in l =
+      lifted-exactly _
+      (has-exactly _ l
+      (found-exactly (GoodWithin now) TriesOrVoids All (λ l. good (latestTry l)) (λ _. true) isGood (λ a. isKind 5 a || voiding a)
+      none-good step good-exactly tries-or-voids always l))
+    where
+      step :
+          (a : Accepted) (l : List Accepted) →
+          good (latestTry (a ∷ l)) ≡ isGood a && true || not (isKind 5 a || voiding a) && good (latestTry l)
+      step a l = rw (latest-since tryIn) (try-step a (latestOf tryIn (since voiding l)) (view (a .event)))
+
+-- Lock 5.
+isWrongTry : Accepted → Bool
+isWrongTry a = not (rowEnd a) && isWrong (serviceIn (a .event))
+
+wrong-exactly : (a : Accepted) → (isWrongTry a ≡ true) ↔ WrongTry a
+unfolding isWrongTry
+wrong-exactly a = ((λ h. found (a .event) refl (view (a .event)) h), back)
+  where
+    found :
+        (e : Event) →
+        a .event ≡ e →
+        View e →
+        not (eqb (kindOf e) 7 || endsRow (serviceIn e)) && isWrong (serviceIn e) ≡ true →
+        WrongTry a
+    found (Calibration _ _) s (calibrates clock outcome) h = absurd (false≢true h)
+    found (Try _ _) s (tries clock (Good expiry)) h = absurd (false≢true h)
+    found (Try _ _) s (tries clock Wrong) h = record { clock = clock; wrong = s }
+    found e s (other _ x) h =
+        absurd (false≢true (sym (not-and-none (eqb (kindOf e) 7 || endsRow (serviceIn e))) ∙
+        sym (ap (λ b. not (eqb (kindOf e) 7 || endsRow (serviceIn e)) && b) (x .notWrong)) ∙ h))
+
+    back : WrongTry a → not (eqb (kindOf (a .event)) 7 || endsRow (serviceIn (a .event))) && isWrong (serviceIn (a .event)) ≡ true
+    back x = rw (x .wrong)
+
+good-try : (a : Accepted) → (endsRow (serviceIn (a .event)) ≡ true) ↔ GoodTry a
+good-try a = ((λ h. found (a .event) refl (view (a .event)) h), back)
+  where
+    found : (e : Event) → a .event ≡ e → View e → endsRow (serviceIn e) ≡ true → GoodTry a
+    found (Calibration _ _) s (calibrates clock outcome) h = absurd (false≢true h)
+    found (Try _ _) s (tries clock (Good expiry)) h = record { clock = clock; expiry = expiry; good = s }
+    found (Try _ _) s (tries clock Wrong) h = absurd (false≢true h)
+    found e s (other _ x) h = absurd (false≢true (sym (x .endsNone) ∙ h))
+
+    back : GoodTry a → endsRow (serviceIn (a .event)) ≡ true
+    back x = rw (x .good)
+
+row-end : (a : Accepted) → (rowEnd a ≡ true) ↔ EndsRow a
+row-end a = or-exactly (isKind 7 a) (endsRow (serviceIn (a .event))) (is-kind 7 a) (good-try a)
+
+-- One wrong try more.
+leb-suc : (n w : ℕ) → leb (suc n) (suc w) ≡ leb n w
+leb-suc n w = go (leb n w) refl
+  where
+    go : (b : Bool) → leb n w ≡ b → leb (suc n) (suc w) ≡ b
+    go true e = let h : n ≤ w = leb-true n w e in le-leb (suc n) (suc w) (omega arith)
+    go false e = let h : w < n = leb-false n w e in lt-leb (suc n) (suc w) (omega arith)
+
+leb-more : (n w : ℕ) → leb n w ≡ leb n w || leb (suc n) w
+leb-more n w = go (leb n w) refl
+  where
+    go : (b : Bool) → leb n w ≡ b → b ≡ b || leb (suc n) w
+    go true e = refl
+    go false e = let h : w < n = leb-false n w e in sym (lt-leb (suc n) w (omega arith))
+
+-- The row with one accepted event more.
+row-step :
+    (n w : ℕ) (ends wrong : Bool) →
+    leb (suc n) (pick ends 0 (pick wrong (suc w) w)) ≡ (not ends && wrong) && leb n w || not ends && leb (suc n) w
+unfolding pick
+row-step n w true wrong = lt-leb (suc n) 0 (omega arith)
+row-step n w false true = leb-suc n w ∙ leb-more n w
+row-step n w false false = refl
+
+row-none : wrongRow [] ≡ 0
+unfolding wrongRow wrongTries since
+row-none = refl
+
+row-more :
+    (a : Accepted) (l : List Accepted) →
+    wrongRow (a ∷ l) ≡ pick (rowEnd a) 0 (pick (isWrong (serviceIn (a .event))) (suc (wrongRow l)) (wrongRow l))
+unfolding wrongRow
+row-more a l = wrong-since rowEnd a l
+
+row-exactly :
+    (n : ℕ) →
+    ((l : List Accepted) → (leb n (wrongRow l) ≡ true) ↔ WrongInRow n l) →
+    (l : List Accepted) →
+    (leb (suc n) (wrongRow l) ≡ true) ↔ WrongInRow (suc n) l
+unfolding isWrongTry
+row-exactly n before =
+    found-exactly WrongTry EndsRow (WrongInRow n) (λ l. leb (suc n) (wrongRow l)) (λ l. leb n (wrongRow l)) isWrongTry rowEnd
+    (ap (leb (suc n)) row-none ∙ lt-leb (suc n) 0 (omega arith))
+    (λ a l. ap (leb (suc n)) (row-more a l) ∙ row-step n (wrongRow l) (rowEnd a) (isWrong (serviceIn (a .event))))
+    wrong-exactly row-end before
+
+in-row : (n : ℕ) (l : List Accepted) → (leb n (wrongRow l) ≡ true) ↔ WrongInRow n l
+in-row zero l = ((λ _. tt), (λ _. le-leb 0 (wrongRow l) (omega arith)))
+in-row (suc n) l = row-exactly n (in-row n) l
+
+row-cleared : (a : Accepted) (n : ℕ) → isKind 7 a ≡ true → pick (rowEnd a) 0 n ≡ 0
+unfolding pick
+row-cleared a n h = rw h
+
+-- A row of four locks at once.
+row-locks : (l : List Accepted) → leb 4 (wrongRow l) ≡ true → passwordLock l ≡ true
+unfolding passwordLock
+row-locks [] h = absurd (false≢true (sym (ap (leb 4) row-none) ∙ h))
+row-locks (a ∷ l) h = go (isKind 7 a) refl
+  where
+    go : (b : Bool) → isKind 7 a ≡ b → not b && (leb 4 (wrongRow (a ∷ l)) || passwordLock l) ≡ true
+    go true e = absurd (false≢true (sym (ap (leb 4) (row-more a l ∙ row-cleared a _ e)) ∙ h))
+    go false e = rw h
+
+password-step :
+    (w : ℕ) (f unlocks ends wrong : Bool) →
+    (leb 4 w ≡ true → f ≡ true) →
+    not unlocks && (leb 4 (pick (unlocks || ends) 0 (pick wrong (suc w) w)) || f)
+    ≡ (not (unlocks || ends) && wrong) && leb 3 w || not unlocks && f
+unfolding pick
+password-step w f true ends wrong h = refl
+password-step w f false true wrong h = refl
+password-step w f false false true h = ap (λ b. b || f) (leb-suc 3 w)
+password-step w f false false false h = go (leb 4 w) refl
+  where
+    go : (b : Bool) → leb 4 w ≡ b → b || f ≡ f
+    go true e = sym (h e)
+    go false e = refl
+
+password : (l : List Accepted) → (passwordLock l ≡ true) ↔ PasswordLocked l
+unfolding passwordLock isWrongTry
+password l = (
+  (λ h. let x = exactly .0 h in record { newest = x .0; others = x .1 }),
+  (λ x. exactly .1 (x .newest, x .others)),
+)
+  where
+    step :
+        (a : Accepted) (l : List Accepted) →
+        passwordLock (a ∷ l) ≡ isWrongTry a && leb 3 (wrongRow l) || not (isKind 7 a) && passwordLock l
+    step a l =
+        ap (λ n. not (isKind 7 a) && (leb 4 n || passwordLock l)) (row-more a l) ∙
+        password-step (wrongRow l) (passwordLock l) (isKind 7 a) (endsRow (serviceIn (a .event))) (isWrong (serviceIn (a .event))) (row-locks l)
+
+    exactly : (passwordLock l ≡ true) ↔ Found WrongTry Unlocks (WrongInRow 3) l
+    exactly =
+        found-exactly WrongTry Unlocks (WrongInRow 3) passwordLock (λ l. leb 3 (wrongRow l)) isWrongTry (isKind 7) refl step wrong-exactly (is-kind 7) (in-row 3) l
+
+-- Lock 6.
+authority : (l : List Accepted) → (authorityLock l ≡ true) ↔ AuthorityLocked l
+unfolding authorityLock
+authority l = any-exactly 6 (isKind 7) Unlocks (is-kind 7) apart l
+  where
+    apart : (a : Accepted) → isKind 6 a ≡ true → isKind 7 a ≡ false
+    apart a h = rw (eqb-true (kindOf (a .event)) 6 h)
+
+-- Lock 7.
+uploaded : (l after : List Accepted) (a : Accepted) (before : List Accepted) → l ≡ after ++ a ∷ before → Uploads a → NoneIs Uploads after → since (isKind 8) l ≡ after
+unfolding since pick
+uploaded l [] a before s is n = rw (s, eq-eqb _ _ is)
+uploaded l (b ∷ after) a before s is n =
+    rw (s, ne-eqb _ _ (n .0)) (ap (_∷_ b) (uploaded (after ++ a ∷ before) after a before refl is (n .1)))
+
+not-uploaded : (l : List Accepted) → NoneIs Uploads l → since (isKind 8) l ≡ l
+unfolding since pick
+not-uploaded [] n = refl
+not-uploaded (a ∷ l) n = rw (ne-eqb _ _ (n .0)) (ap (_∷_ a) (not-uploaded l (n .1)))
+
+upload-or-none : (l : List Accepted) → Has Uploads Uploads l ⊎ NoneIs Uploads l
+upload-or-none [] = inr tt
+upload-or-none (a ∷ l) = go (isKind 8 a) refl (upload-or-none l)
+  where
+    go : (b : Bool) → isKind 8 a ≡ b → Has Uploads Uploads l ⊎ NoneIs Uploads l → Has Uploads Uploads (a ∷ l) ⊎ NoneIs Uploads (a ∷ l)
+    go true e o = inl (found-here Uploads Uploads All a l (eqb-true _ _ e) tt .0)
+    go false e (inl x) = inl (found-later Uploads Uploads All a l (eqb-false _ _ e) (x, tt) .0)
+    go false e (inr n) = inr (eqb-false _ _ e, n)
+
+unsent : (limit : ℕ) (l : List Accepted) → (unsentLock limit l ≡ true) ↔ Unsent limit l
+unfolding unsentLock unsentIn
+unsent limit l = ((λ h. there (eqb-true _ _ h) (upload-or-none l)), (λ x. eq-eqb _ _ (back x)))
+  where
+    there : verdictsIn (since (isKind 8) l) ≡ limit → Has Uploads Uploads l ⊎ NoneIs Uploads l → Unsent limit l
+    there h (inl x) = inl (x, sym (ap verdictsIn (uploaded l (x .after) (x .event) (x .before) (x .split) (x .is) (x .noneAfter))) ∙ h)
+    there h (inr n) = inr (n, sym (ap verdictsIn (not-uploaded l n)) ∙ h)
+
+    back : Unsent limit l → verdictsIn (since (isKind 8) l) ≡ limit
+    back (inl x) = ap verdictsIn (uploaded l (x .0 .after) (x .0 .event) (x .0 .before) (x .0 .split) (x .0 .is) (x .0 .noneAfter)) ∙ x .1
+    back (inr x) = ap verdictsIn (not-uploaded l (x .0)) ∙ x .1
+
+-- All seven.
+pub stands-exactly : LockClaims
+stands-exactly validity limit now l = record {
+  warmUp = warm-up l;
+  activity = activity now l;
+  calibration = calibration validity now l;
+  signIn = sign-in now l;
+  password = password l;
+  authority = authority l;
+  unsent = unsent limit l;
+}
