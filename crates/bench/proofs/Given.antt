@@ -144,7 +144,7 @@ unfolding tell judged added lastClock
 told-read validity limit h e f = go (firstCause (causes validity limit h e)) refl
   where
     go : (o : Option Refusal) → firstCause (causes validity limit h e) ≡ o → FromEvents (judged o h e .history)
-    go (some r) c = f
+    go (some r) c = record { clock = f .clock; test = f .test }
     go none c = record {
       clock = refl;
       test =

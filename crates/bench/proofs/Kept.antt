@@ -263,7 +263,7 @@ kept validity limit h e sound = go (firstCause (causes validity limit h e)) refl
   where
     go :
         (o : Option Refusal) → firstCause (causes validity limit h e) ≡ o → Sound limit (judged o h e .history)
-    go (some r) c = sound
+    go (some r) c = record { unsent = sound .unsent; test = sound .test }
     go none c =
         accepted-kept validity limit (h .events) (h .last) (h .test) e (sort-of e) (sound .unsent) (sound .test)
         (none-stand (causes validity limit h e) c)

@@ -5,7 +5,7 @@ use mathlib.Core.Bool.{Bool, true, false}
 use mathlib.Core.List.{List, [], _∷_}
 use Prim.Native.Nat.{ℕ, zero, suc, _+_, _<_}
 use native.Mathlib.Omega.{arith}
-use lib.Dec.{leb, eqb}
+use lib.Dec.{leb}
 use lib.ListN.{getD}
 use borrow.Author.Tests.{eq-eqb}
 use Rattle.refusal.specs.Choice.{pick, firstUnfit}
@@ -13,7 +13,7 @@ use Rattle.refusal.specs.Table.{saturationUnfit}
 use Rattle.correction.specs.Humidity.{humidityFit, pressureFit, saturationFit, kH, humidityFactor}
 use Rattle.correction.specs.declared.Factor.the-variants.{Millionths, Unfit}
 use Rattle.correction.proofs.Ranges.{both-true}
-use Rattle.vehicle.specs.Settings.{settingFit, settingsFit, unfitPlace, rangeAt, ranges}
+use Rattle.vehicle.specs.Settings.{automatic, settingFit, settingsFit, unfitPlace, rangeAt, ranges}
 use Rattle.vehicle.specs.Limits.{limitsFor}
 use Rattle.vehicle.specs.Loads.{aimFor}
 use Rattle.vehicle.specs.Checked.{vehicleOf, checkedOf}
@@ -77,14 +77,15 @@ module _ (s : Settings) (p : ℕ) (fit : unfitPlace s ≡ 0) where
       none-refused (saturationFit p) _ _ _ (sym (factor-of s fit p) ∙ e) ∙ sym (checked-as s fit p)
 
   pub checked-some :
-      (l : Limits) (a b : Aim) (q : ℕ) →
+      (auto : Bool) (l : Limits) (a b : Aim) (q : ℕ) →
+      auto ≡ automatic s →
       l ≡ limitsFor (s .kind) (s .year) →
       a ≡ aimFor (s .kind) (s .displacement) One →
       b ≡ aimFor (s .kind) (s .displacement) Two →
       humidityFactor (s .humidity) (s .pressure) p ≡ Millionths q →
       Fit
       (record {
-        automatic = eqb (s .gearbox) 2;
+        automatic = auto;
         limits = l;
         first = a;
         second = b;
@@ -95,7 +96,7 @@ module _ (s : Settings) (p : ℕ) (fit : unfitPlace s ≡ 0) where
       }) ≡
       checkedOf s p
   unfolding vehicleOf
-  checked-some l a b q el ea eb e =
+  checked-some auto l a b q eg el ea eb e =
       let f = sym (factor-of s fit p) ∙ e in
-      rw (el, ea, eb, some-is (saturationFit p) _ q f)
+      rw (eg, el, ea, eb, some-is (saturationFit p) _ q f)
       (sym (some-fit (saturationFit p) _ q (Fit (vehicleOf s p)) _ f) ∙ sym (checked-as s fit p))

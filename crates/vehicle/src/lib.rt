@@ -97,8 +97,6 @@ const RANGES: [Range; 8] = [
 
 const MOPED: u16 = 2;
 
-const AUTOMATIC: u16 = 2;
-
 // Motorcycle before and from 2001, moped before and from 2001.
 const LIMITS: [Limits; 4] = [
     Limits {
@@ -251,7 +249,7 @@ pub fn checked_of(s: Settings, saturation: u16) -> Checked
         });
     };
     Checked::Fit(Vehicle {
-        automatic: s.gearbox == AUTOMATIC,
+        automatic: is_automatic(s),
         limits: limits_for(s.kind, s.year),
         first: aim_for(s.kind, s.displacement, Mode::One),
         second: aim_for(s.kind, s.displacement, Mode::Two),
@@ -267,7 +265,7 @@ pub fn checked_of(s: Settings, saturation: u16) -> Checked
 pub fn is_automatic(s: Settings) -> bool
     ensures { λ r. ⌜ r ≡ automatic s ⌝ }
 {
-    s.gearbox == AUTOMATIC
+    s.gearbox == 2
 }
 
 // Whether the gearbox is automatic.
