@@ -8,4 +8,5 @@ pub mod WasRead
 pub mod Begun
 pub mod FirstBytes
 pub mod Lengths
+pub mod Keeping
 pub mod Claimed
