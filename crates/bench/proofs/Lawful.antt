@@ -1,7 +1,7 @@
 -- The laws beside demand 3, and what opening a bench carries. Assumes nothing.
 use Prim.Native.Nat.{ℕ, _≤_, _<_}
 use mathlib.Core.Bool.{Bool, true, false, false≢true, _&&_}
-use mathlib.Core.Path.{_≡_, refl, ap, sym, _∙_, subst⁻¹}
+use mathlib.Core.Path.{_≡_, refl, sym, _∙_}
 use mathlib.Core.Logic.{_↔_}
 use mathlib.Core.List.{List}
 use mathlib.Core.Option.{some}
@@ -19,8 +19,6 @@ use Rattle.locks.specs.Accepted.{since, latestOf}
 use Rattle.locks.specs.Locks.{unsentIn, unsentLock}
 use Rattle.locks.proofs.Stands.{stands-exactly}
 use Rattle.bench.specs.declared.Answer.the-variants as answer
-use Rattle.bench.specs.declared.Bench.{Bench}
-use Rattle.bench.specs.declared.Opened.{Opened}
 use Rattle.bench.specs.History.{freshHistory}
 use Rattle.bench.specs.Causes.{lockAt, causes, firstCause}
 use Rattle.bench.specs.Running.{replayedFrom, testIn}
@@ -95,16 +93,12 @@ never-admitted validity es clock settings saturation = go (isAccepted (answerAft
 
 -- So no start is admitted on what comes with a refused opening.
 shut-bench :
-    (validity limit : ℕ) (r : Opened) →
-    r ≡ openedOf validity limit →
+    (validity limit : ℕ) →
     parametersFit validity limit ≡ false →
     (es : List Event) (clock : ℕ) (settings : Settings) (saturation : ℕ) →
-    isAccepted (step (benchAfter (r .bench) es) (Start clock settings saturation) .answer) ≡ false
+    isAccepted (step (benchAfter (openedOf validity limit .bench) es) (Start clock settings saturation) .answer) ≡ false
 unfolding openedOf pick
-shut-bench validity limit r h unfit es clock settings saturation =
-    subst⁻¹ (λ (b : Bench). isAccepted (step (benchAfter b es) (Start clock settings saturation) .answer) ≡ false)
-    (ap (λ x. x .bench) h ∙ rw unfit)
-    (never-admitted 1 es clock settings saturation)
+shut-bench validity limit unfit es clock settings saturation = rw unfit (never-admitted 1 es clock settings saturation)
 
 and-right : (a b : Bool) → a && b ≡ true → b ≡ true
 and-right true b h = h
@@ -116,12 +110,11 @@ fit-limit validity limit h =
     (and-right (leb 1 limit) (leb limit 255)
     (and-right (leb 1 validity && leb validity 2592000) (leb 1 limit && leb limit 255) h))
 
--- What is opened carries the claim.
-pub opens : (validity limit : ℕ) (r : Opened) → r ≡ openedOf validity limit → Opens validity limit r
-opens validity limit r h = record {
-  result = h;
+-- What opening a bench carries.
+pub opens : (validity limit : ℕ) → Opens validity limit
+opens validity limit = record {
   demand = λ f. demanded validity limit (fit-limit validity limit f);
   laws = λ f. laws validity limit (fit-limit validity limit f);
-  shut = shut-bench validity limit r h;
+  shut = shut-bench validity limit;
   bounded = λ f. bounded validity limit (fit-limit validity limit f);
 }

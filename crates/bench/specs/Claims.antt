@@ -1,4 +1,4 @@
--- What opening a bench gives, with the claims about every list of events from it.
+-- The claims about every list of events given to a bench that was opened; the contract of `open` carries them.
 use Prim.Native.Nat.{ℕ, _≤_}
 use mathlib.Core.Bool.{true, false}
 use mathlib.Core.Path.{_≡_}
@@ -8,7 +8,6 @@ use Rattle.vehicle.specs.declared.Settings.{Settings}
 use Rattle.locks.specs.declared.Event.{Event}
 use Rattle.locks.specs.declared.Event.the-variants.{Start}
 use Rattle.bench.specs.declared.Bench.{Bench}
-use Rattle.bench.specs.declared.Opened.{Opened}
 use Rattle.bench.specs.Stepping.{step, freshBench, parametersFit, openedOf}
 use Rattle.bench.specs.Demand.{benchAfter, isAccepted, Demand3}
 use Rattle.bench.specs.Laws.{Laws}
@@ -19,16 +18,15 @@ pub record Bounded (limit : ℕ) (b : Bench) : Type 0 where
   pub unsent : b .desk .locks .unsent ≤ limit
   pub test : TestBounded (b .test .progress)
 
--- What opening a bench gives, with the claim about every list of events from it.
-pub record Opens (validity limit : ℕ) (r : Opened) : Type 0 where
-  pub result : r ≡ openedOf validity limit
+-- What holds of every list of events given to a bench that was opened with this V and U.
+pub record Opens (validity limit : ℕ) : Type 0 where
   pub demand : parametersFit validity limit ≡ true → Demand3 validity limit
   pub laws : parametersFit validity limit ≡ true → Laws validity limit
   -- a refused opening gives a bench on which no start is ever admitted
   pub shut :
       parametersFit validity limit ≡ false →
       (es : List Event) (clock : ℕ) (settings : Settings) (saturation : ℕ) →
-      isAccepted (step (benchAfter (r .bench) es) (Start clock settings saturation) .answer) ≡ false
+      isAccepted (step (benchAfter (openedOf validity limit .bench) es) (Start clock settings saturation) .answer) ≡ false
   pub bounded :
       parametersFit validity limit ≡ true →
       (es : List Event) →

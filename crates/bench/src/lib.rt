@@ -3,7 +3,7 @@
 // specs/History.antt, Causes.antt and Telling.antt are the plain history; specs/Demand.antt is demand 3, which open carries.
 ghost use mathlib.Core.Path.{_≡_};
 ghost use Rattle.bench.specs.Causes.{insideTest, outsideTest};
-ghost use Rattle.bench.specs.Stepping.{freshBench, step};
+ghost use Rattle.bench.specs.Stepping.{freshBench, openedOf, step};
 ghost use Rattle.bench.specs.Claims.{Opens};
 ghost use Rattle.bench.specs.Laws.{BackIfRefused};
 
@@ -94,7 +94,8 @@ fn fresh_bench(validity: u32, limit: u16) -> Bench
 // A fresh bench of V and U, or refusal 15 with a bench that admits no start; with it comes demand 3 about every list of events.
 // Ruled out: U = 256 taken, and a bench that opens with a lock lifted.
 pub fn open(validity: u32, limit: u16) -> Opened
-    ensures { λ r. ⌜ Opens validity limit r ⌝ }
+    ensures answer { λ r. ⌜ r ≡ openedOf validity limit ⌝ }
+    ensures claims { λ r. ⌜ Opens validity limit ⌝ }
 {
     if (1 <= validity) & (validity <= 2_592_000) & ((1 <= limit) & (limit <= 255)) {
         return Opened {

@@ -11,14 +11,14 @@ fresh-bench-requires c κs = search needs
 
 returns : tie.Need-returns
 unfolding openedOf pick
-returns c = opens _ _ _ (simp (c .before .if1 .taken, c .fresh-bench .ensures))
+returns c = (simp (c .before .if1 .taken, c .fresh-bench .ensures), opens _ _)
 
 fresh-bench-requires-2 : tie.Need-fresh-bench-requires-2
 fresh-bench-requires-2 c κs = search needs
 
 returns-2 : tie.Need-returns-2
 unfolding openedOf pick
-returns-2 c = opens _ _ _ (simp (c .before .if1 .left, c .fresh-bench2 .ensures))
+returns-2 c = (simp (c .before .if1 .left, c .fresh-bench2 .ensures), opens _ _)
 
 pub open-spec : {M : Type 1} → statement M
 open-spec = tie.close (tie.spec fresh-bench-requires returns fresh-bench-requires-2 returns-2)
