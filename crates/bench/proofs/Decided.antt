@@ -155,7 +155,7 @@ module _ (h : History) (e : Event) (x : Verdict) where
 quiet-not : (x : Verdict) → none ≡ some x → ⊥
 quiet-not x h = let z : _≡_ {A = ℕ} 0 1 = cc in omega arith
 
-input-not : (i : Input) → none ≡ some i → ⊥
+pub input-not : (i : Input) → none ≡ some i → ⊥
 input-not i h = let z : _≡_ {A = ℕ} 0 1 = cc in omega arith
 
 outcome-gives : (h : History) (e : Event) (x : Verdict) → Sort e → outcomeOf h e .verdict ≡ some x → Gives h e x

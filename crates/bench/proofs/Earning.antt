@@ -4,7 +4,7 @@ use native.Mathlib.Omega.{arith}
 use mathlib.Core.Bool.{Bool}
 use mathlib.Core.Path.{_≡_, refl, ap, sym, _∙_, subst}
 use mathlib.Core.List.{List, [], _∷_}
-use mathlib.Core.Option.{Option, none, some}
+use mathlib.Core.Option.{Option, some}
 use Rattle.reading.specs.declared.Second.{Second as Units}
 use Rattle.reading.specs.declared.Converted.{Converted}
 use Rattle.reading.specs.declared.Converted.the-variants as converted
@@ -30,6 +30,7 @@ use Rattle.vehicle.specs.Settings.{automatic}
 use Rattle.bench.specs.Running.{inputsSince}
 use Rattle.bench.specs.Passes.{Since, seconded, stopped, Reads, noMore, before, pass, PassEarned}
 use Rattle.bench.proofs.Sound.{Follows}
+use Rattle.bench.proofs.Decided.{input-not}
 
 aSecond-same : (s s′ : Units) → aSecond s ≡ aSecond s′ → s ≡ s′
 aSecond-same s s′ h = cc
@@ -54,9 +55,6 @@ second-input :
 unfolding secondInput
 second-input (converted.Fit y) s h = cc
 second-input (converted.Refused r) s h = let z : _≡_ {A = ℕ} 0 1 = cc in absurd (omega arith)
-
-input-not : (i : Input) → none ≡ some i → ⊥
-input-not i h = let z : _≡_ {A = ℕ} 0 1 = cc in omega arith
 
 input-second : (n : ℕ) (s : Units) → some (aStop n) ≡ some (aSecond s) → ⊥
 input-second n s h = let z : _≡_ {A = ℕ} 0 1 = cc in omega arith

@@ -7,7 +7,7 @@ use mathlib.Core.Logic.{_↔_}
 use mathlib.Core.List.{List, [], _∷_}
 use mathlib.Core.Option.{Option, none, some}
 use borrow.Author.Tests.{ltb-true, lt-ltb, eqb-false}
-use lib.Dec.{ltb, eqb}
+use lib.Dec.{ltb}
 use lib.ListN.{drop, getD}
 use Rattle.refusal.specs.Choice.{pick}
 use Rattle.refusal.specs.Table.{refusal, clockEarlier, startLocked}
@@ -17,7 +17,7 @@ use Rattle.locks.specs.Events.{clockOf, startIn, Starting}
 use Rattle.locks.specs.Accepted.{Accepted}
 use Rattle.locks.specs.Locks.{standingIn, inOrder, firstStanding, lockInOrder, lockOf}
 use Rattle.bench.specs.History.{History}
-use Rattle.bench.specs.Causes.{Cause, lockAt, locked, causes, firstCause}
+use Rattle.bench.specs.Causes.{Cause, free, lockAt, locked, causes, firstCause}
 use Rattle.bench.specs.Laws.{LockStands, lock1, lock2, lock3, lock4, lock5, lock6, lock7, LeastLock}
 
 -- A row that returns another refusal is passed by.
@@ -139,11 +139,11 @@ differ a n x y ne h = ne (ap (λ r. r .number) h)
 -- The last row, alone: what it returns, and that it stands.
 last-row : (place n : ℕ) → firstCause (locked place ∷ []) ≡ some (startLocked n) → (place ≡ n) × (n ≡ 0 → ⊥)
 unfolding firstCause pick
-last-row place n h = go (eqb place 0) refl h
+last-row place n h = go (free place) refl h
   where
     go :
         (b : Bool) →
-        eqb place 0 ≡ b →
+        free place ≡ b →
         pick (not b) (some (startLocked place)) none ≡ some (startLocked n) →
         (place ≡ n) × (n ≡ 0 → ⊥)
     go true e p = let z : _≡_ {A = ℕ} 0 1 = cc in absurd (omega arith)

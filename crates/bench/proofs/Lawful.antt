@@ -1,6 +1,6 @@
 -- The laws beside demand 3, and what opening a bench carries. Assumes nothing.
 use Prim.Native.Nat.{ℕ, _≤_, _<_}
-use mathlib.Core.Bool.{Bool, true, false, false≢true, _&&_}
+use mathlib.Core.Bool.{Bool, true, false, _&&_}
 use mathlib.Core.Path.{_≡_, refl, sym, _∙_}
 use mathlib.Core.Logic.{_↔_}
 use mathlib.Core.List.{List}
@@ -12,6 +12,7 @@ use Rattle.refusal.specs.Choice.{pick}
 use Rattle.refusal.specs.Table.{clockEarlier, startLocked}
 use Rattle.refusal.specs.declared.Refusal.{Refusal}
 use Rattle.vehicle.specs.declared.Settings.{Settings}
+use Rattle.attempt.proofs.Tests.{and-right}
 use Rattle.locks.specs.declared.Event.{Event}
 use Rattle.locks.specs.declared.Event.the-variants.{Start}
 use Rattle.locks.specs.Events.{clockOf}
@@ -99,10 +100,6 @@ shut-bench :
     isAccepted (step (benchAfter (openedOf validity limit .bench) es) (Start clock settings saturation) .answer) ≡ false
 unfolding openedOf pick
 shut-bench validity limit unfit es clock settings saturation = rw unfit (never-admitted 1 es clock settings saturation)
-
-and-right : (a b : Bool) → a && b ≡ true → b ≡ true
-and-right true b h = h
-and-right false b h = absurd (false≢true h)
 
 fit-limit : (validity limit : ℕ) → parametersFit validity limit ≡ true → limit ≤ 255
 fit-limit validity limit h =

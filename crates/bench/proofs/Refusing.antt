@@ -43,7 +43,7 @@ module _ (b : Bench) (e : Event) where
   followed-back Rests t r h = absurd (accepted-not r h)
   followed-back RestEnded t r h = absurd (accepted-not r h)
   followed-back ModeTwo t r h = absurd (accepted-not r h)
-  followed-back (Ends x) t r h = absurd (judged-not x r h)
+  followed-back (Ends x) t r h = absurd (judged-not _ r h)
 
   answered-back : (x : TestAnswer) (t : Test) → BackIfRefused b (answered x b e t)
   answered-back (test-answer.Told did next) t = followed-back next t

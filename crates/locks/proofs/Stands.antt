@@ -19,7 +19,7 @@ use Rattle.locks.specs.declared.Event.the-variants.{PowerOn, ClockSettin
 use Rattle.locks.specs.Events.{kindOf, clockOf, serviceIn, calibrationIn, tryIn, Calibrating}
 use Rattle.locks.specs.Accepted.{Accepted, isKind, since, any, orElse, latestOf}
 use Rattle.locks.specs.Locks.{voids, voiding, renews, notWarm, activeClock, overdue, inactive, expired, noneValid, latestCalibration, notCalibrated, noneGood, latestTry, notSignedIn, isWrong, endsRow, rowEnd, wrongTries, wrongRow, passwordLock, authorityLock, verdictsIn, unsentIn, unsentLock}
-use Rattle.locks.specs.Plain.{IsKind, Voids, NoneIs, Has, NotWarm, Active, ActiveBefore, Inactive, PassedWithin, CalibratesOrVoids, NotCalibrated, GoodWithin, TriesOrVoids, NotSignedIn, WrongTry, GoodTry, Unlocks, EndsRow, WrongInRow, PasswordLocked, AuthorityLocked, Uploads, Unsent}
+use Rattle.locks.specs.Plain.{IsKind, Voids, NoneIs, Has, NotWarm, Active, ActiveBefore, Inactive, PassedWithin, NotCalibrated, GoodWithin, NotSignedIn, WrongTry, GoodTry, Unlocks, EndsRow, WrongInRow, PasswordLocked, AuthorityLocked, Uploads, Unsent}
 use Rattle.locks.specs.Claims.{LockClaims}
 use Rattle.locks.proofs.Kept.{any-since, latest-since, wrong-since}
 use Rattle.locks.proofs.Found.{Found, found-here, found-later, found-exactly}
@@ -142,130 +142,125 @@ not-and-none : (v : Bool) → not v && false ≡ false
 not-and-none true = refl
 not-and-none false = refl
 
+-- Locks 3 and 4: the latest of a kind that is not void, where there is one, lifts the lock or not. Only events of that kind carry one, and
+-- none of them voids.
+abbrev Kinded : {A : Type 0} → Bool → Bool → Option A → Type 0
+Kinded is void none = is ≡ false
+Kinded is void (some x) = (is ≡ true) × (void ≡ false)
+
+module _ {A : Type 0} (lifts : Option A → Bool) (never : lifts none ≡ false) where
+  lifted : (b : Bool) → b ≡ (true && b) && true || false
+  lifted true = refl
+  lifted false = refl
+
+  not-lifted :
+      (void : Bool) (o : Option A) →
+      lifts (pick void none o) ≡ (not void && lifts none) && true || not (false || void) && lifts o
+  unfolding pick
+  not-lifted true o = never
+  not-lifted false o = rw never
+
+  latest-step :
+      (is void : Bool) (x o : Option A) →
+      Kinded is void x →
+      lifts (pick void none (orElse x o)) ≡ (not void && lifts x) && true || not (is || void) && lifts o
+  unfolding orElse pick
+  latest-step is void none o h = rw h (not-lifted void o)
+  latest-step is void (some x) o h = rw (h .0, h .1) (lifted (lifts (some x)))
+
+  none-yet : (f : Event → Option A) → lifts (latestOf f (since voiding [])) ≡ false
+  unfolding latestOf since
+  none-yet f = never
+
+  latest-exactly :
+      (n : ℕ) (f : Event → Option A) (P : Accepted → Type 0) →
+      ((a : Accepted) → Kinded (isKind n a) (voiding a) (f (a .event))) →
+      ((a : Accepted) → (not (voiding a) && lifts (f (a .event)) ≡ true) ↔ P a) →
+      (l : List Accepted) →
+      (lifts (latestOf f (since voiding l)) ≡ true) ↔ Has P (λ a. IsKind n a ⊎ Voids a) l
+  latest-exactly n f P kinded exactly l =
+      has-exactly _ l
+      (found-exactly P (λ a. IsKind n a ⊎ Voids a) All
+      (λ l. lifts (latestOf f (since voiding l)))
+      (λ _. true)
+      (λ a. not (voiding a) && lifts (f (a .event)))
+      (λ a. isKind n a || voiding a)
+      (none-yet f) step exactly
+      (λ a. or-exactly (isKind n a) (voiding a) (is-kind n a) (is-voiding a))
+      always l)
+    where
+      step :
+          (a : Accepted) (l : List Accepted) →
+          lifts (latestOf f (since voiding (a ∷ l)))
+          ≡ (not (voiding a) && lifts (f (a .event))) && true
+          || not (isKind n a || voiding a) && lifts (latestOf f (since voiding l))
+      step a l =
+          ap lifts (latest-since f voiding a l) ∙
+          latest-step (isKind n a) (voiding a) (f (a .event)) (latestOf f (since voiding l)) (kinded a)
+
 -- Lock 3.
 module _ (validity now : ℕ) where
-  passes : Option Calibrating → Bool
-  passes none = false
-  passes (some c) = not (expired validity now (c .clock) (c .outcome))
+  valid : Option Calibrating → Bool
+  valid o = not (noneValid validity now o)
 
-  valid : List Accepted → Bool
-  valid l = not (noneValid validity now (latestCalibration l))
+  none-valid : valid none ≡ false
+  unfolding valid noneValid
+  none-valid = refl
 
-  isPassed : Accepted → Bool
-  isPassed a = not (voiding a) && passes (calibrationIn (a .event))
-
-  calibrates-or-voids : (a : Accepted) → (isKind 4 a || voiding a ≡ true) ↔ CalibratesOrVoids a
-  calibrates-or-voids a = or-exactly (isKind 4 a) (voiding a) (is-kind 4 a) (is-voiding a)
-
-  calibration-step :
-      (a : Accepted) (o : Option Calibrating) →
-      View (a .event) →
-      not (noneValid validity now (pick (voiding a) none (orElse (calibrationIn (a .event)) o)))
-      ≡ isPassed a && true || not (isKind 4 a || voiding a) && not (noneValid validity now o)
-  unfolding isPassed passes noneValid orElse pick
-  calibration-step a o w = go (a .event) w
+  calibration-kinded : (a : Accepted) → Kinded (isKind 4 a) (voiding a) (calibrationIn (a .event))
+  calibration-kinded a = go (a .event) (view (a .event))
     where
-      last :
-          (b : Bool) →
-          not b ≡ (true && not b) && true || false
-      last true = refl
-      last false = refl
-
-      rest :
-          (v : Bool) (k : Bool) →
-          k ≡ false →
-          not (noneValid validity now (pick v none o)) ≡ (not v && false) && true || not (k || v) && not (noneValid validity now o)
-      rest true false h = refl
-      rest false false h = refl
-      rest v true h = absurd (true≢false h)
-
-      go :
-          (e : Event) →
-          View e →
-          not (noneValid validity now (pick (voids (kindOf e)) none (orElse (calibrationIn e) o)))
-          ≡ (not (voids (kindOf e)) && passes (calibrationIn e)) && true
-          || not (eqb (kindOf e) 4 || voids (kindOf e)) && not (noneValid validity now o)
-      go (Calibration _ _) (calibrates clock outcome) = last (expired validity now clock outcome)
+      go : (e : Event) → View e → Kinded (eqb (kindOf e) 4) (voids (kindOf e)) (calibrationIn e)
+      go (Calibration _ _) (calibrates clock outcome) = (refl, refl)
       go (Try _ _) (tries clock outcome) = refl
-      go e (other _ h) = rw (h .noCalibration) (rest (voids (kindOf e)) (eqb (kindOf e) 4) (h .notFour))
+      go e (other _ x) = rw (x .noCalibration) (x .notFour)
 
-  passed-exactly : (a : Accepted) → (isPassed a ≡ true) ↔ PassedWithin validity now a
-  unfolding isPassed passes expired
+  passed-exactly :
+      (a : Accepted) → (not (voiding a) && valid (calibrationIn (a .event)) ≡ true) ↔ PassedWithin validity now a
+  unfolding valid noneValid expired
   passed-exactly a = ((λ h. found (a .event) refl (view (a .event)) h), back)
     where
       found :
           (e : Event) →
           a .event ≡ e →
           View e →
-          not (voids (kindOf e)) && passes (calibrationIn e) ≡ true →
+          not (voids (kindOf e)) && valid (calibrationIn e) ≡ true →
           PassedWithin validity now a
       found (Calibration _ _) s (calibrates clock Passed) h =
           record { clock = clock; passed = s; valid = ltb-false (clock + validity) now (not-true _ h) }
       found (Calibration _ _) s (calibrates clock Failed) h = absurd (false≢true h)
       found (Try _ _) s (tries clock outcome) h = absurd (false≢true h)
       found e s (other _ x) h =
-          absurd (false≢true (sym (not-and-none (voids (kindOf e))) ∙ sym (ap (λ o. not (voids (kindOf e)) && passes o) (x .noCalibration)) ∙ h))
+          absurd (false≢true (sym (not-and-none (voids (kindOf e))) ∙ sym (ap (λ o. not (voids (kindOf e)) && valid o) (x .noCalibration)) ∙ h))
 
-      back : PassedWithin validity now a → not (voids (kindOf (a .event))) && passes (calibrationIn (a .event)) ≡ true
+      back : PassedWithin validity now a → not (voids (kindOf (a .event))) && valid (calibrationIn (a .event)) ≡ true
       back x = rw (x .passed, le-ltb (x .clock + validity) now (x .valid))
-
-  none-valid : valid [] ≡ false
-  unfolding valid latestCalibration since latestOf noneValid
-  none-valid = refl
 
   calibration : (l : List Accepted) → (notCalibrated validity now l ≡ true) ↔ NotCalibrated validity now l
   unfolding notCalibrated valid latestCalibration
   calibration l =
       lifted-exactly _
-      (has-exactly _ l
-      (found-exactly (PassedWithin validity now) CalibratesOrVoids All valid (λ _. true) isPassed (λ a. isKind 4 a || voiding a)
-      none-valid step passed-exactly calibrates-or-voids always l))
-    where
-      step :
-          (a : Accepted) (l : List Accepted) →
-          valid (a ∷ l) ≡ isPassed a && true || not (isKind 4 a || voiding a) && valid l
-      step a l = rw (latest-since calibrationIn) (calibration-step a (latestOf calibrationIn (since voiding l)) (view (a .event)))
+      (latest-exactly valid none-valid 4 calibrationIn (PassedWithin validity now) calibration-kinded passed-exactly l)
 
 -- Lock 4.
 module _ (now : ℕ) where
   good : Option Tried → Bool
   good o = not (noneGood now o)
 
-  isGood : Accepted → Bool
-  isGood a = not (voiding a) && good (tryIn (a .event))
+  none-good : good none ≡ false
+  unfolding good noneGood
+  none-good = refl
 
-  tries-or-voids : (a : Accepted) → (isKind 5 a || voiding a ≡ true) ↔ TriesOrVoids a
-  tries-or-voids a = or-exactly (isKind 5 a) (voiding a) (is-kind 5 a) (is-voiding a)
-
-  try-step :
-      (a : Accepted) (o : Option Tried) →
-      View (a .event) →
-      good (pick (voiding a) none (orElse (tryIn (a .event)) o))
-      ≡ isGood a && true || not (isKind 5 a || voiding a) && good o
-  unfolding isGood good noneGood orElse pick
-  try-step a o w = go (a .event) w
+  try-kinded : (a : Accepted) → Kinded (isKind 5 a) (voiding a) (tryIn (a .event))
+  try-kinded a = go (a .event) (view (a .event))
     where
-      last : (b : Bool) → b ≡ (true && b) && true || false
-      last true = refl
-      last false = refl
-
-      rest :
-          (v k : Bool) → k ≡ false → good (pick v none o) ≡ (not v && false) && true || not (k || v) && good o
-      rest true false h = refl
-      rest false false h = refl
-      rest v true h = absurd (true≢false h)
-
-      go :
-          (e : Event) →
-          View e →
-          good (pick (voids (kindOf e)) none (orElse (tryIn e) o))
-          ≡ (not (voids (kindOf e)) && good (tryIn e)) && true || not (eqb (kindOf e) 5 || voids (kindOf e)) && good o
+      go : (e : Event) → View e → Kinded (eqb (kindOf e) 5) (voids (kindOf e)) (tryIn e)
       go (Calibration _ _) (calibrates clock outcome) = refl
-      go (Try _ _) (tries clock outcome) = last (not (noneGood now (some outcome)))
-      go e (other _ h) = rw (h .noTry) (rest (voids (kindOf e)) (eqb (kindOf e) 5) (h .notFive))
+      go (Try _ _) (tries clock outcome) = (refl, refl)
+      go e (other _ x) = rw (x .noTry) (x .notFive)
 
-  good-exactly : (a : Accepted) → (isGood a ≡ true) ↔ GoodWithin now a
-  unfolding isGood good noneGood
+  good-exactly : (a : Accepted) → (not (voiding a) && good (tryIn (a .event)) ≡ true) ↔ GoodWithin now a
+  unfolding good noneGood
   good-exactly a = ((λ h. found (a .event) refl (view (a .event)) h), back)
     where
       found :
@@ -284,22 +279,9 @@ module _ (now : ℕ) where
       back : GoodWithin now a → not (voids (kindOf (a .event))) && good (tryIn (a .event)) ≡ true
       back x = rw (x .good, le-ltb (x .expiry) now (x .valid))
 
-  none-good : good (latestTry []) ≡ false
-  unfolding good latestTry since latestOf noneGood
-  none-good = refl
-
   sign-in : (l : List Accepted) → (notSignedIn now l ≡ true) ↔ NotSignedIn now l
   unfolding notSignedIn good latestTry
-  sign-in l =
-      lifted-exactly _
-      (has-exactly _ l
-      (found-exactly (GoodWithin now) TriesOrVoids All (λ l. good (latestTry l)) (λ _. true) isGood (λ a. isKind 5 a || voiding a)
-      none-good step good-exactly tries-or-voids always l))
-    where
-      step :
-          (a : Accepted) (l : List Accepted) →
-          good (latestTry (a ∷ l)) ≡ isGood a && true || not (isKind 5 a || voiding a) && good (latestTry l)
-      step a l = rw (latest-since tryIn) (try-step a (latestOf tryIn (since voiding l)) (view (a .event)))
+  sign-in l = lifted-exactly _ (latest-exactly good none-good 5 tryIn (GoodWithin now) try-kinded good-exactly l)
 
 -- Lock 5.
 isWrongTry : Accepted → Bool
