@@ -31,7 +31,8 @@ fn last_line(write: impl Fn(&mut Script)) -> String {
     line_of(&LISTED_MANUAL, write)
 }
 
-fn line_of(settings: &[u16; 7], write: impl Fn(&mut Script)) -> String {
+/// The same with other settings.
+pub fn line_of(settings: &[u16; 7], write: impl Fn(&mut Script)) -> String {
     let mut script = Script::new(Vehicle::new(settings, 2339), 3);
     write(&mut script);
     match steps(&script).pop() {
@@ -46,7 +47,7 @@ pub fn check_settling(checks: &mut Checks) {
         let [c, n, g, t, u, w, passing, failing, rest, r, q] = numbers;
         format!(
             "{did} mode {mode} stage {stage} c {c} n {n} g {g} t {t} u {u} w {w} \
-             passing {passing} failing {failing} rest {rest} r {r} q {q}"
+             passing {passing} failing {failing} rest {rest} r {r} q {q} engine -"
         )
     };
     let settling = |c, n, g, u, w| {
@@ -184,7 +185,7 @@ pub fn check_voids(checks: &mut Checks) {
     same("stop after c = 145", |s| { s.far(145); s.stop(1) }, "nothing goes-on 1 0 0 0 1 0");
     let line = last_line(|s| { s.void(1); s.seconds(1, |w| w.units[0] = 10); s.idle(3, 9) });
     let rest = "nothing goes-on mode 1 stage rest c 0 n 0 g 0 t 0 u 0 w 0 \
-        passing 0 failing 0 rest 3 r 1 q 0";
+        passing 0 failing 0 rest 3 r 1 q 0 engine -";
     checks.same("rest count", line, rest.to_string());
 }
 
@@ -196,42 +197,43 @@ pub fn check_kept(checks: &mut Checks) {
         checks.same(name, line.replace(" stage ended", ""), want.to_string());
     };
     same("pass keeps", |s| s.pass(),
-        "measured ends-pass mode 1 c 36 n 0 g 0 t 25 u 0 w 0 passing 16 failing 0 rest 0 r 0 q 0");
+        "measured ends-pass mode 1 c 36 n 0 g 0 t 25 u 0 w 0 passing 16 failing 0 rest 0 r 0 q 0 engine 4000");
     same("out pass keeps", |s| { s.settle(); s.clean(22); s.out(1); s.clean(1); s.out(1) },
-        "measured goes-on mode 1 stage measuring c 36 n 0 g 0 t 25 u 1 w 2 passing 13 failing 0 rest 0 r 0 q 0");
+        "measured goes-on mode 1 stage measuring c 36 n 0 g 0 t 25 u 1 w 2 passing 13 failing 0 rest 0 r 0 q 0 \
+         engine 4000");
     same("last second out", |s| { s.settle(); s.clean(24); s.out(1) },
-        "measured ends-pass mode 1 c 36 n 0 g 0 t 25 u 1 w 1 passing 15 failing 0 rest 0 r 0 q 0");
+        "measured ends-pass mode 1 c 36 n 0 g 0 t 25 u 1 w 1 passing 15 failing 0 rest 0 r 0 q 0 engine 4000");
     same("fail keeps", |s| { s.to_mode_2(); s.settle(); s.dirty(90) },
-        "measured ends-fail mode 2 c 95 n 0 g 0 t 90 u 0 w 0 passing 0 failing 81 rest 0 r 0 q 0");
+        "measured ends-fail mode 2 c 95 n 0 g 0 t 90 u 0 w 0 passing 0 failing 81 rest 0 r 0 q 0 engine 4000");
     same("void 7 keeps", |s| { s.void_and_rest(1); s.void_and_rest(2); s.unready(19); s.far(1);
             s.unready(1); s.clean(4) },
-        "void-7 ends-incomplete mode 1 c 25 n 25 g 4 t 0 u 1 w 1 passing 0 failing 0 rest 0 r 3 q 0");
+        "void-7 ends-incomplete mode 1 c 25 n 25 g 4 t 0 u 1 w 1 passing 0 failing 0 rest 0 r 3 q 0 engine -");
     same("void 7 in mode 2 keeps", |s| { s.to_mode_2(); s.void_and_rest(1); s.void_and_rest(2); s.far(2);
             s.unready(13); s.clean(2) },
-        "void-7 ends-incomplete mode 2 c 17 n 15 g 2 t 0 u 0 w 0 passing 0 failing 0 rest 0 r 3 q 0");
+        "void-7 ends-incomplete mode 2 c 17 n 15 g 2 t 0 u 0 w 0 passing 0 failing 0 rest 0 r 3 q 0 engine -");
     same("n = 25 on c = 145", |s| { s.void_and_rest(1); s.void_and_rest(2); s.far(120); s.unready(25) },
-        "void-7 ends-incomplete mode 1 c 145 n 25 g 0 t 0 u 0 w 0 passing 0 failing 0 rest 0 r 3 q 0");
+        "void-7 ends-incomplete mode 1 c 145 n 25 g 0 t 0 u 0 w 0 passing 0 failing 0 rest 0 r 3 q 0 engine -");
     same("void 5 in settling keeps", |s| { s.void_and_rest(1); s.void_and_rest(2); s.clean(3); s.far(1);
             s.seconds(1, |w| (w.units[4], w.units[6]) = (99, 50)) },
-        "void-5 ends-incomplete mode 1 c 5 n 4 g 0 t 0 u 1 w 1 passing 0 failing 0 rest 0 r 3 q 0");
+        "void-5 ends-incomplete mode 1 c 5 n 4 g 0 t 0 u 1 w 1 passing 0 failing 0 rest 0 r 3 q 0 engine -");
     same("void 6 on the first second", |s| { s.void_and_rest(1); s.void_and_rest(2);
             s.seconds(1, |w| w.over = 7) },
-        "void-6 ends-incomplete mode 1 c 1 n 0 g 0 t 0 u 0 w 0 passing 0 failing 0 rest 0 r 3 q 0");
+        "void-6 ends-incomplete mode 1 c 1 n 0 g 0 t 0 u 0 w 0 passing 0 failing 0 rest 0 r 3 q 0 engine -");
     same("stop in settling keeps", |s| { s.void_and_rest(1); s.void_and_rest(2); s.void(3) },
-        "void-3 ends-incomplete mode 1 c 7 n 7 g 7 t 0 u 0 w 0 passing 0 failing 0 rest 0 r 3 q 0");
+        "void-3 ends-incomplete mode 1 c 7 n 7 g 7 t 0 u 0 w 0 passing 0 failing 0 rest 0 r 3 q 0 engine -");
     same("void 8 in settling keeps", |s| { s.void_and_rest(1); s.void_and_rest(2); s.far(130); s.unready(13);
             s.clean(2) },
-        "void-8 ends-incomplete mode 1 c 145 n 15 g 2 t 0 u 0 w 0 passing 0 failing 0 rest 0 r 3 q 0");
+        "void-8 ends-incomplete mode 1 c 145 n 15 g 2 t 0 u 0 w 0 passing 0 failing 0 rest 0 r 3 q 0 engine -");
     same("void 8 where measuring begins", |s| { s.void_and_rest(1); s.void_and_rest(2); s.far(134); s.clean(11) },
-        "void-8 ends-incomplete mode 1 c 145 n 0 g 0 t 0 u 0 w 0 passing 0 failing 0 rest 0 r 3 q 0");
+        "void-8 ends-incomplete mode 1 c 145 n 0 g 0 t 0 u 0 w 0 passing 0 failing 0 rest 0 r 3 q 0 engine -");
     same("void 8 at a restart", |s| { s.void_and_rest(1); s.void_and_rest(2); s.far(131); s.clean(11); s.out(3) },
-        "void-8 ends-incomplete mode 1 c 145 n 0 g 0 t 0 u 0 w 0 passing 0 failing 0 rest 0 r 3 q 0");
+        "void-8 ends-incomplete mode 1 c 145 n 0 g 0 t 0 u 0 w 0 passing 0 failing 0 rest 0 r 3 q 0 engine -");
     same("void 6 in measuring keeps", |s| { s.void_and_rest(1); s.void_and_rest(2); s.settle(); s.clean(3);
             s.out(1); s.seconds(1, |w| w.over = 4) },
-        "void-6 ends-incomplete mode 1 c 16 n 0 g 0 t 4 u 1 w 1 passing 0 failing 0 rest 0 r 3 q 0");
+        "void-6 ends-incomplete mode 1 c 16 n 0 g 0 t 4 u 1 w 1 passing 0 failing 0 rest 0 r 3 q 0 engine -");
     same("stop in measuring keeps", |s| { s.void_and_rest(1); s.void_and_rest(2); s.settle(); s.out(2);
             s.clean(1); s.out(1); s.stop(2) },
-        "void-2 ends-incomplete mode 1 c 15 n 0 g 0 t 4 u 1 w 3 passing 0 failing 0 rest 0 r 3 q 0");
+        "void-2 ends-incomplete mode 1 c 15 n 0 g 0 t 4 u 1 w 3 passing 0 failing 0 rest 0 r 3 q 0 engine -");
 }
 
 /// Seconds and stops on an ended test are 13, before 8 and 15.
@@ -279,8 +281,8 @@ pub fn check_growing(checks: &mut Checks) {
     }
 }
 
-/// Verdict, mode and voids of a test, judged whole and growing.
-type Outcome = (Option<Verdict>, u8, Vec<u8>);
+/// Verdict, mode, voids and engine speed of a test, judged whole and growing.
+type Outcome = (Option<Verdict>, u8, Vec<u8>, Option<u128>);
 
 fn both_ways(car: Vehicle, items: Vec<Item>) -> (Outcome, Outcome) {
     let (seconds, stops) = lists_of(car.automatic, &items);
@@ -296,15 +298,16 @@ fn both_ways(car: Vehicle, items: Vec<Item>) -> (Outcome, Outcome) {
         items,
         ..Script::new(car, 0)
     };
-    let mut growing = (None, 1, Vec::new());
+    let mut growing = (None, 1, Vec::new(), None);
     for step in steps(&script) {
         growing.0 = step.verdict();
         growing.1 = step.state.standing.mode;
         if let Did::Void(void) = step.did {
             growing.2.push(void);
         }
+        growing.3 = step.state.engine;
     }
-    ((verdict, whole.mode, whole.voids), growing)
+    ((verdict, whole.mode, whole.voids, whole.engine), growing)
 }
 
 fn lists_of(automatic: bool, items: &[Item]) -> (Vec<Second>, Vec<Stop>) {

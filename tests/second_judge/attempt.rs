@@ -3,7 +3,8 @@
 use crate::numbers::Second;
 use crate::vehicle::Vehicle;
 use crate::window::{
-    averages, measured_of, window_passes, window_sums, window_valid, Averages, Measured,
+    averages, engine_mean, measured_of, window_passes, window_sums, window_valid, Averages,
+    Measured,
 };
 
 /// A stop: how many seconds are already past, and the cause.
@@ -52,6 +53,7 @@ pub struct Attempt {
     pub passing: usize,
     pub failing: usize,
     pub window: Option<Averages>, // of the last valid window
+    pub engine: Option<u128>,     // the mean of that window, none with a speed missing
     pub did: Did,
     pub end: Option<End>,
     pub seconds_used: usize, // first second of the list not yet looked at
@@ -165,6 +167,7 @@ fn settle_and_measure(car: &Vehicle, mode: u8, counted: &[Second]) -> Attempt {
         passing: 0,
         failing: 0,
         window: None,
+        engine: None,
         did: Did::Nothing,
         end: None,
         seconds_used: counted.len(),
@@ -392,9 +395,9 @@ fn keep_run(run: &Run, list: &[Measured], attempt: &mut Attempt, car: &Vehicle) 
     attempt.t = run.t;
     attempt.passing = run.passing;
     attempt.failing = run.failing;
-    attempt.window = run
-        .last_valid
-        .map(|i| averages(&window_sums(car, &list[i - 9..=i])));
+    let window = run.last_valid.map(|i| &list[i - 9..=i]);
+    attempt.window = window.map(|window| averages(&window_sums(car, window)));
+    attempt.engine = window.and_then(engine_mean);
     attempt.end = run.end;
     match run.end {
         Some(End::Void(void)) => attempt.did = Did::Void(void),

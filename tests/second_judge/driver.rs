@@ -147,6 +147,7 @@ fn stage_now(test: &Running) -> Stage {
 /// A whole driven test, cut off after `most` seconds.
 pub fn driven_test(car: Vehicle, most: usize, dice: &mut Dice) -> Vec<Item> {
     let mut driver = Driver::new(car, dice);
+    driver.script.vary();
     let mut test = Running::new(car);
     let mut items = Vec::new();
     let mut seconds = 0;

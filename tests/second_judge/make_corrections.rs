@@ -118,9 +118,21 @@ fn spread(sum: i64) -> [i64; 10] {
     ten
 }
 
-/// Ten seconds at speed and load with given gases: HC, CO, NO sums, CO2.
+/// Ten good engine speeds, each another, whose sum ends as the given one does.
+fn spread_engines(sum: i64) -> [i64; 10] {
+    let mut ten = spread(40_000 + sum % 1000);
+    for i in 0..5 {
+        ten[i] -= 100 * (i as i64 + 1);
+        ten[9 - i] += 100 * (i as i64 + 1);
+    }
+    ten
+}
+
+/// Ten seconds at speed and load with given gases: HC, CO, NO sums, CO2. The engine speeds
+/// go by the HC sum.
 pub fn ten_seconds(car: &Vehicle, mode: u8, sums: [i64; 3], co2: i64) -> Vec<[u32; 8]> {
     let (hc, co, no) = (spread(sums[0]), spread(sums[1]), spread(sums[2]));
+    let engine = spread_engines(sums[0]);
     let script = Script {
         mode,
         ..Script::new(*car, 1)
@@ -128,7 +140,8 @@ pub fn ten_seconds(car: &Vehicle, mode: u8, sums: [i64; 3], co2: i64) -> Vec<[u3
     (0..10)
         .map(|i| {
             let mut units = script.good().units;
-            (units[3], units[4], units[5], units[6]) = (hc[i], co[i], no[i], co2);
+            (units[2], units[3]) = (engine[i], hc[i]);
+            (units[4], units[5], units[6]) = (co[i], no[i], co2);
             [1, 2, 3, 4, 5, 6, 7, 8].map(|code: u8| bits_of(code, units[code as usize - 1], 0))
         })
         .collect()
@@ -222,6 +235,43 @@ fn put_half_windows(out: &mut Vec<u8>) {
     }
 }
 
+/// The engine speeds of the ten seconds: means at, above and below a half, at both ends, with
+/// one or all missing.
+fn put_engine_windows(out: &mut Vec<u8>) {
+    let [manual, automatic] = [1, 2].map(|gearbox| [1, 2005, 125, gearbox, 50, 20, 1013]);
+    let one = |speed, last| [vec![speed; 9], vec![last]].concat();
+    let half_each = [[3999; 5], [4000; 5]].concat();
+    for speeds in [half_each, one(3999, 4004), one(3999, 4003), one(3999, 5001)] {
+        put_engine_window(out, &manual, &speeds);
+    }
+    for speeds in [
+        one(0, 0),
+        one(0, 4),
+        one(0, 5),
+        one(9999, 9999),
+        one(9999, 9994),
+    ] {
+        put_engine_window(out, &automatic, &speeds);
+    }
+    for missing in [1, 10] {
+        let speeds = [vec![4000; 10 - missing], vec![-1; missing]].concat();
+        put_engine_window(out, &automatic, &speeds);
+    }
+}
+
+/// A window with those engine speeds, −1 one that is missing.
+fn put_engine_window(out: &mut Vec<u8>, settings: &[u16; 7], speeds: &[i64]) {
+    let car = Vehicle::new(settings, 2339);
+    let mut ten = ten_seconds(&car, 1, [1000, 1000, 1000], 120);
+    for (second, speed) in ten.iter_mut().zip(speeds) {
+        second[2] = match speed {
+            -1 => MISSING,
+            _ => bits_of(3, *speed, 0),
+        };
+    }
+    put_window(out, 1, settings, 2339, &ten);
+}
+
 fn put_changed_window(out: &mut Vec<u8>, s: &[u16; 7], p: u16, i: usize, code: u8, bits: u32) {
     let car = Vehicle::new(s, p);
     let mut ten = ten_seconds(&car, 1, [1000, 1000, 1000], 120);
@@ -282,6 +332,7 @@ pub fn make_corrections(seed: u64, count: usize) -> Vec<u8> {
     }
     put_co_windows(&mut out);
     put_half_windows(&mut out);
+    put_engine_windows(&mut out);
     put_limit_corners(&mut out);
     for _ in 0..count {
         put_random_correction(&mut out, &mut dice);
@@ -304,6 +355,7 @@ fn put_random_correction(out: &mut Vec<u8>, dice: &mut Dice) {
         }
         _ => {
             let mut script = Script::new(Vehicle::new(&settings, p), dice.next());
+            script.vary();
             script.mode = mode;
             script.noise = dice.pick(&[0, 0, 3]);
             script.close(10);

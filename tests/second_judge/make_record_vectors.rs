@@ -7,7 +7,7 @@ use crate::make_records::{
 };
 use crate::make_tests::put_topic;
 use crate::modes::write_item;
-use crate::named_records::listing;
+use crate::named_records::{listing, small_record};
 use crate::numbers::refusal;
 use crate::record::Content;
 use crate::rejudging::rejudge_line;
@@ -280,12 +280,13 @@ fn put_line_item(out: &mut Vec<u8>, length: usize, fill: u8, record: &[u8]) {
     put_item(out, record);
 }
 
-/// Records for the line: a verdict, open ones with a window and without, and refused ones.
+/// Records for the line: a verdict, open ones with a window and its engine speed and without,
+/// and refused ones.
 fn line_records() -> Vec<Vec<u8>> {
     let short = listing(0).bytes();
     vec![
         listing(36).bytes(),
-        listing(21).bytes(),
+        small_record("engine_half_up").unwrap_or_default(),
         short.clone(),
         short[..20].to_vec(),
         Vec::new(),

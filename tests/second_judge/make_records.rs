@@ -8,7 +8,7 @@ use crate::numbers::OVER;
 use crate::record::Content;
 use crate::running::Running;
 use crate::script::{encode, Item, Script};
-use crate::scripted_tests::{scripted_test, SCRIPTS};
+use crate::scripted_tests::{scripted_gearbox, scripted_test, SCRIPTS};
 use crate::vehicle::Vehicle;
 
 pub fn put_item(out: &mut Vec<u8>, record: &[u8]) {
@@ -141,7 +141,7 @@ fn driven_content(dice: &mut Dice) -> Content {
 
 pub fn scripted_content(index: usize, dice: &mut Dice) -> Content {
     let mut site = Site::some(dice);
-    site.settings[3] = if index % 3 == 0 { 2 } else { 1 };
+    site.settings[3] = scripted_gearbox(index);
     let car = site.car();
     let items = scripted_test(car, index as u64, index % SCRIPTS).unwrap_or_default();
     let items = until_verdict(car, &items);

@@ -8,7 +8,7 @@ use crate::make_corrections::{make_corrections, put_words};
 use crate::make_readings::make_readings;
 use crate::modes::{correction_item, next_test_line, reading_item};
 use crate::script::good_bits;
-use crate::scripted_tests::{scripted_test, REACHING};
+use crate::scripted_tests::{scripted_gearbox, scripted_test, REACHING, SCRIPTS};
 use crate::vehicle::Vehicle;
 
 pub fn kind_of(event: &Event) -> u8 {
@@ -57,7 +57,10 @@ pub fn make_tests(seed: u64, count: usize) -> Vec<u8> {
     let mut out = Vec::new();
     put_event(&mut out, None, &Event::Stop(1)); // no test yet
     for i in 0..count {
-        let settings = some_settings(&mut dice);
+        let mut settings = some_settings(&mut dice);
+        if i < SCRIPTS {
+            settings[3] = scripted_gearbox(i);
+        }
         let p = dice.within(500, 4300) as u16;
         let car = Vehicle::new(&settings, p);
         put_event(&mut out, None, &Event::Start(settings, p));

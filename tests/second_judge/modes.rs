@@ -11,7 +11,10 @@ use crate::rejudging::rejudge_line;
 use crate::running::{Running, State, Step};
 use crate::test::{Next, Standing};
 use crate::vehicle::Vehicle;
-use crate::window::{averages, measured_of, window_passes, window_sums, window_valid, Measured};
+use crate::window::{
+    averages, engine_mean, engine_text, measured_of, window_passes, window_sums, window_valid,
+    Measured,
+};
 use std::io::{self, Write};
 use std::process::{Command, Stdio};
 
@@ -201,8 +204,9 @@ pub fn window_line(
         "failing"
     };
     let a = averages(&sums);
+    let engine = engine_text(engine_mean(&list));
     Ok(format!(
-        "window {valid} {judged} {} {} {}",
+        "window {valid} {judged} {} {} {} {engine}",
         a.hc, a.co, a.no
     ))
 }
@@ -260,8 +264,17 @@ fn state_text(s: &State) -> String {
     let Standing { mode, r, q } = s.standing;
     format!(
         "mode {mode} stage {stage} c {} n {} g {} t {} u {} w {} \
-         passing {} failing {} rest {} r {r} q {q}",
-        s.c, s.n, s.g, s.t, s.u, s.w, s.passing, s.failing, s.rest,
+         passing {} failing {} rest {} r {r} q {q} engine {}",
+        s.c,
+        s.n,
+        s.g,
+        s.t,
+        s.u,
+        s.w,
+        s.passing,
+        s.failing,
+        s.rest,
+        engine_text(s.engine),
     )
 }
 

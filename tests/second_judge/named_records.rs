@@ -21,8 +21,8 @@ pub fn listing(rows: usize) -> Content {
     }
 }
 
-/// Small records that end each in another way, by name.
-pub const RECORDS: [&str; 31] = [
+/// Small records by name: each ends in another way, or has its engine speed for another reason.
+pub const RECORDS: [&str; 38] = [
     "pass_rising",
     "pass_out",
     "pass_ninety",
@@ -54,21 +54,38 @@ pub const RECORDS: [&str; 31] = [
     "refused_9_stop",
     "refused_9_unfit",
     "refused_9_stopped",
+    "engine_half_each",
+    "engine_half_up",
+    "engine_half_down",
+    "engine_older",
+    "engine_one_missing",
+    "engine_last_missing",
+    "engine_zero",
+];
+
+/// The records of the engine speed that have an automatic gearbox.
+const AUTOMATIC: [&str; 4] = [
+    "engine_older",
+    "engine_one_missing",
+    "engine_last_missing",
+    "engine_zero",
 ];
 
 /// A record of RECORDS.
 pub fn small_record(name: &str) -> Option<Vec<u8>> {
     let place = RECORDS.iter().position(|known| *known == name)?;
     let moped = name.contains("two") || name.ends_with("inconclusive");
-    let layout = if name.ends_with("void8") {
-        0
-    } else {
-        place % 3
+    let engine = name.starts_with("engine_");
+    let layout = match engine {
+        true => 1,
+        false if name.ends_with("void8") => 0,
+        false => place % 3,
     };
+    let automatic = layout == 0 || AUTOMATIC.contains(&name);
     let site = Site {
         settings: match moped {
             true => [2, 2003, 50, 2, 40, 18, 990],
-            false => [1, 1998, 180, 1 + (layout == 0) as u16, 70, 24, 1020],
+            false => [1, 1998, 180, 1 + automatic as u16, 70, 24, 1020],
         },
         saturation: listing(0).saturation,
     };
@@ -81,6 +98,7 @@ pub fn small_record(name: &str) -> Option<Vec<u8>> {
     let mut script = Script::new(site.car(), place as u64);
     match name.strip_prefix("refused_") {
         Some(_) => small_refused(name, &mut script),
+        None if engine => small_engine(name, &mut script),
         None => small_test(name, &mut script),
     }
     let mut content = content_of(&site, codes, &script.items, &mut Dice(place as u64));
@@ -119,6 +137,24 @@ fn small_test(name: &str, s: &mut Script) {
         "open_two" => s.to_mode_2(),
         "open_two_rest" => { s.to_mode_2(); s.settle(); s.clean(12); s.stop(2); s.idle(3, 9) }
         _ => { s.to_mode_2(); s.settle(); s.clean(12); s.out(3); s.clean(4) }
+    }
+}
+
+/// The tests whose last field is in question, left open.
+#[rustfmt::skip]
+fn small_engine(name: &str, s: &mut Script) {
+    s.vary();
+    s.missing = 0;
+    s.settle();
+    match name {
+        "engine_half_each" => { s.clean(3); s.engines(5, 3999); s.engines(5, 4000) }
+        "engine_half_up" => { s.clean(3); s.engines(9, 3999); s.engine(4004) }
+        "engine_half_down" => { s.clean(3); s.engines(9, 3999); s.engine(4003) }
+        "engine_older" => { s.clean(12); s.out(2) }
+        // The oldest of the window's ten is missing, or the newest.
+        "engine_one_missing" => { s.clean(3); s.no_engine(); s.clean(9) }
+        "engine_last_missing" => { s.clean(12); s.no_engine() }
+        _ => { s.clean(3); s.engines(10, 0) }
     }
 }
 
@@ -165,8 +201,9 @@ pub fn sample(name: &str) -> Option<Vec<u8>> {
     if let Some(record) = small_record(name) {
         return Some(record);
     }
+    let gearbox = if name == "engine_missing" { 2 } else { 1 };
     let site = Site {
-        settings: [1, 1999, 150, 1, 60, 25, 1005],
+        settings: [1, 1999, 150, gearbox, 60, 25, 1005],
         saturation: listing(0).saturation,
     };
     let mut script = Script::new(site.car(), 7);
@@ -203,6 +240,19 @@ pub fn sample(name: &str) -> Option<Vec<u8>> {
         "refused" => {
             script.pass();
             script.clean(1);
+        }
+        // Engine speeds that vary, and one of them missing.
+        "engine_speed" => {
+            script.vary();
+            script.pass();
+        }
+        "engine_missing" => {
+            script.vary();
+            script.missing = 0;
+            script.settle();
+            script.clean(20);
+            script.no_engine();
+            script.clean(4);
         }
         // 1,500 rows at rest, and the test with the most measured seconds.
         "rest" => script.idle(1500, 0),

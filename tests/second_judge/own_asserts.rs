@@ -1,6 +1,7 @@
 //! The judge's own asserts: document 01's worked cases and its plausible and wrong ones.
 
 use crate::asserts_bench::{after_tries, check_bench, check_locks, check_tries, last_answer, GOOD};
+use crate::asserts_engine::{check_engines, check_gathered, check_means};
 use crate::asserts_numbers::{check_corrections, check_readings, check_rounding, check_windows};
 use crate::asserts_record::{
     check_line, check_named, check_records, check_round_trips, check_samples, check_writer,
@@ -181,11 +182,13 @@ pub fn selftest() -> bool {
     check_rounding(&mut checks);
     check_corrections(&mut checks);
     check_windows(&mut checks);
+    check_means(&mut checks);
     check_settling(&mut checks);
     check_measuring(&mut checks);
     check_voids(&mut checks);
     check_kept(&mut checks);
     check_ended(&mut checks);
+    check_engines(&mut checks);
     check_records(&mut checks);
     check_writer(&mut checks);
     check_round_trips(&mut checks);
@@ -195,6 +198,7 @@ pub fn selftest() -> bool {
     check_bench(&mut checks);
     check_plausible(&mut checks);
     check_growing(&mut checks);
+    check_gathered(&mut checks);
     check_samples(&mut checks);
     check_named(&mut checks);
     check_least(&mut checks);

@@ -2,14 +2,16 @@
 
 use crate::attempt::{Did, Stage};
 use crate::items::Items;
+use crate::numbers::Second;
 use crate::reach::{names, texts, Reach};
+use crate::reach_engines::{Engines, ON_THE_SHEET};
 use crate::record::{read_record, u16_at, Record};
 use crate::rejudging::rejudge;
 use crate::running::{Running, Step};
 use crate::test::{Judged, Next, Word};
 
-/// What a record's rows and stops do, each with its second's speed, up to the first unfit row.
-fn record_steps(record: &Record) -> Vec<(Option<i64>, Step)> {
+/// What a record's rows and stops do, each with its second, up to the first unfit row.
+fn record_steps(record: &Record) -> Vec<(Option<Second>, Step)> {
     let seconds = record.seconds().0;
     let mut test = Running::new(record.vehicle());
     let mut steps = Vec::new();
@@ -20,7 +22,7 @@ fn record_steps(record: &Record) -> Vec<(Option<i64>, Step)> {
             }
         }
         if let (false, Some(second)) = (test.ended, seconds.get(row)) {
-            steps.push((Some(second.speed), test.second(*second)));
+            steps.push((Some(*second), test.second(*second)));
         }
     }
     steps
@@ -50,7 +52,7 @@ pub const RISING: &str = "pass with second 10 more than 8 above second 1";
 const LEFT_OVER: &str = "refused 6 with a byte left over";
 
 /// An open record that prints no window although there was one: why.
-fn open_without_window(steps: &[(Option<i64>, Step)]) -> Option<String> {
+fn open_without_window(steps: &[(Option<Second>, Step)]) -> Option<String> {
     let windows = |step: &Step| step.state.passing + step.state.failing > 0;
     let last = &steps.last()?.1;
     if windows(last) || !steps.iter().any(|(_, step)| windows(step)) {
@@ -87,6 +89,7 @@ pub fn reach_records(data: &[u8]) -> Reach {
     required.extend(names("open in rest, no window, mode ", 1..=2));
     required.extend(names("open after a restart, no window, mode ", 1..=2));
     required.extend(texts(&["open in mode 2, no window"]));
+    required.extend(texts(&ON_THE_SHEET));
     required.extend(names("void ", 1..=9));
     required.extend(names("refused ", 1..=9));
     let mut reach = Reach::new(required);
@@ -116,14 +119,20 @@ fn reach_judged(reach: &mut Reach, record: &[u8], judged: &Judged) {
     });
     let voids = judged.voids.iter();
     voids.for_each(|void| reach.count(format!("void {void}")));
-    let steps = read_record(record).map_or(Vec::new(), |record| record_steps(&record));
+    let Ok(record) = read_record(record) else {
+        return;
+    };
+    let steps = record_steps(&record);
     if judged.word.is_none() {
         open_without_window(&steps).map(|what| reach.count(what));
     }
-    let mut speeds = Speeds::default();
-    for (speed, step) in &steps {
-        if speeds.rising_pass(*speed, step) {
+    let (mut speeds, mut engines) = (Speeds::default(), Engines::default());
+    for (second, step) in &steps {
+        if speeds.rising_pass(second.map(|s| s.speed), step) {
             reach.count(RISING);
         }
+        engines.step(second.and_then(|s| s.engine), step);
     }
+    let sheet = engines.names(record.settings[3] == 2);
+    sheet.iter().for_each(|name| reach.count(*name));
 }

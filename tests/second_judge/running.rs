@@ -19,6 +19,7 @@ pub struct State {
     pub passing: usize,
     pub failing: usize,
     pub rest: usize,
+    pub engine: Option<u128>, // the mean of the last valid window
 }
 
 impl State {
@@ -36,6 +37,7 @@ impl State {
             passing: 0,
             failing: 0,
             rest: 0,
+            engine: None,
         }
     }
 
@@ -49,6 +51,7 @@ impl State {
             w: a.w,
             passing: a.passing,
             failing: a.failing,
+            engine: a.engine,
             ..State::empty(standing, a.stage)
         }
     }

@@ -5,11 +5,13 @@ use crate::dice::Dice;
 use crate::numbers::{dilution_factor, GREATEST, MISSING, OVER, SCALE};
 use crate::vehicle::Vehicle;
 
-/// A second in units by code; `over` is a code made over range, 0 none.
+/// A second in units by code; `over` is a code made over range, 0 none; `missing` the
+/// percentage in which an automatic gearbox's engine speed is missing.
 #[derive(Clone, Copy, Debug)]
 pub struct Wish {
     pub units: [i64; 8],
     pub over: u8,
+    pub missing: u64,
 }
 
 /// Bits of a number of units, `offset` hundredths of a unit beside it.
@@ -30,7 +32,7 @@ pub fn encode(wish: &Wish, automatic: bool, dice: &mut Dice) -> [u32; 8] {
         let greatest = GREATEST[i] as i64;
         bits[i] = bits_of(code, wish.units[i].clamp(0, greatest), offset);
     }
-    if automatic && dice.percent(50) {
+    if automatic && dice.percent(wish.missing) {
         bits[2] = MISSING;
     }
     if dice.percent(5) {
@@ -68,7 +70,9 @@ pub struct Script {
     pub car: Vehicle,
     pub mode: u8,
     pub items: Vec<Item>,
-    pub noise: u64, // percent of seconds disturbed
+    pub noise: u64,   // percent of seconds disturbed
+    pub missing: u64, // percent of an automatic gearbox's engine speeds that are missing
+    pub varied: bool, // engine speeds change from second to second
     pub dice: Dice,
 }
 
@@ -79,8 +83,16 @@ impl Script {
             mode: 1,
             items: Vec::new(),
             noise: 0,
+            missing: 50,
+            varied: false,
             dice: Dice(seed),
         }
+    }
+
+    /// From here on engine speeds change; some of an automatic gearbox's are missing, or none.
+    pub fn vary(&mut self) {
+        self.varied = true;
+        self.missing = self.dice.pick(&[0, 3, 20]);
     }
 
     /// At speed and load with clean gas.
@@ -89,6 +101,25 @@ impl Script {
         Wish {
             units: [speed, load, 4000, 100, 100, 20, 120, 10],
             over: 0,
+            missing: self.missing,
+        }
+    }
+
+    /// The same, with an engine speed of its own where they vary.
+    pub fn next_good(&mut self) -> Wish {
+        let mut wish = self.good();
+        if self.varied {
+            wish.units[2] = self.some_engine();
+        }
+        wish
+    }
+
+    /// A good engine speed: with an automatic gearbox any.
+    fn some_engine(&mut self) -> i64 {
+        match self.car.automatic {
+            true if self.dice.percent(10) => self.dice.pick(&[0, 9999]),
+            true => self.dice.within(0, 9999),
+            false => self.dice.within(3000, 5000),
         }
     }
 
@@ -105,7 +136,7 @@ impl Script {
     /// `count` good seconds, each changed.
     pub fn seconds(&mut self, count: usize, change: impl Fn(&mut Wish)) {
         for _ in 0..count {
-            let mut wish = self.good();
+            let mut wish = self.next_good();
             change(&mut wish);
             self.push(wish);
         }
@@ -155,7 +186,7 @@ impl Script {
         let limits = self.car.limits();
         let strong = self.dice.percent(50);
         for _ in 0..count {
-            let mut wish = self.good();
+            let mut wish = self.next_good();
             let co2 = if strong {
                 self.dice.within(154, 180)
             } else {
@@ -214,7 +245,25 @@ impl Script {
     }
 
     pub fn engine(&mut self, speed: i64) {
-        self.seconds(1, |w| w.units[2] = speed);
+        self.engines(1, speed);
+    }
+
+    /// Seconds with that engine speed.
+    pub fn engines(&mut self, count: usize, speed: i64) {
+        self.seconds(count, |w| (w.units[2], w.missing) = (speed, 0));
+    }
+
+    /// Engine speed 0 with an automatic gearbox, with a manual one a good one.
+    pub fn engine_at_0(&mut self, count: usize) {
+        match self.car.automatic {
+            true => self.engines(count, 0),
+            false => self.clean(count),
+        }
+    }
+
+    /// A second without an engine speed with an automatic gearbox, with a manual one a good one.
+    pub fn no_engine(&mut self) {
+        self.seconds(1, |w| w.missing = 100);
     }
 
     /// A second with 10·CO2 + CO of that many hundredths.
@@ -260,7 +309,7 @@ impl Script {
     /// Standing at speeds up to `most`.
     pub fn idle(&mut self, count: usize, most: i64) {
         for _ in 0..count {
-            let mut wish = self.good();
+            let mut wish = self.next_good();
             wish.units[0] = self.dice.within(0, most);
             wish.units[1] = 0;
             wish.units[6] = self.dice.pick(&[0, 50, 120]);

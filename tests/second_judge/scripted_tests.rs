@@ -6,17 +6,23 @@ use crate::vehicle::Vehicle;
 /// Scripted tests from the first second of the test. Two voids at most come before the last attempt.
 #[rustfmt::skip]
 const FROM_START: [fn(&mut Script); 20] = [
-    |s| { s.void_and_rest(1); s.void_and_rest(2); s.pass() },
+    // One engine speed missing: the newest of a window, then the oldest, then in none.
+    |s| {
+        s.void_and_rest(1); s.void_and_rest(2);
+        s.missing = 0; s.settle(); s.clean(14); s.no_engine(); s.clean(10);
+    },
     // 15 from target, and second 10 at 8 below second 1.
     |s| { s.void_and_rest(3); s.void_and_rest(4); s.settle_at_edge(); s.falling(25, 8) },
     // At 9 below the pass waits for t = 90.
     |s| { s.void_and_rest(5); s.void_and_rest(6); s.settle(); s.falling(90, 9) },
-    // Void 8 on a restart, a stop in the rest, a pass on a second that is out.
+    // Void 8 on a restart, a stop in the rest, a window at engine speed 0, a pass on a second that is
+    // out and has no engine speed.
     |s| {
         s.void_and_rest(7);
         s.far(142 - s.settling()); s.settle(); s.out(3);
         s.stop(1); s.rest();
-        s.settle(); s.clean(24); s.out(1);
+        s.missing = 0; s.settle(); s.engine_at_0(10); s.clean(14);
+        s.seconds(1, |w| (w.units[0], w.missing) = (w.units[0] + 16, 100));
     },
     // Sums 600, 601, 599; n = 25 (in mode 2: 15) with g = 4; with g = 5, at 50 from target.
     |s| {
@@ -68,9 +74,10 @@ const FROM_START: [fn(&mut Script); 20] = [
         s.engine(2999); s.clean(4); s.engine(5001); s.clean(40);
     },
     |s| { s.settle(); s.close(90) },
-    // Stops while measuring; then second 10 more than 8 above second 1.
+    // Engine speeds whose mean is at a half, then below it; stops while measuring; then second 10
+    // more than 8 above second 1.
     |s| {
-        s.settle(); s.clean(20); s.stop(4); s.rest();
+        s.settle(); s.engines(9, 3999); s.engine(4004); s.engine(3998); s.clean(9); s.stop(4); s.rest();
         s.settle(); s.dirty(40); s.stop(3); s.rest();
         s.settle(); s.falling(25, -9);
     },
@@ -116,9 +123,19 @@ pub const REACHING: usize = FROM_START.len() + FROM_MODE_2.len();
 
 pub const SCRIPTS: usize = REACHING + FROM_START.len();
 
+/// The gearbox for a scripted test: every third is automatic.
+pub fn scripted_gearbox(index: usize) -> u16 {
+    if index % 3 == 0 {
+        2
+    } else {
+        1
+    }
+}
+
 /// Scripted test number `index`.
 pub fn scripted_test(car: Vehicle, seed: u64, index: usize) -> Option<Vec<Item>> {
     let mut script = Script::new(car, seed.wrapping_mul(1000).wrapping_add(index as u64));
+    script.vary();
     if index >= FROM_START.len() {
         script.to_mode_2_by(index - FROM_START.len());
     }

@@ -1,4 +1,4 @@
-//! The second judge: a reference written from document 01 alone.
+//! The second judge: a reference written from document 01 and the requests of document 02 alone.
 //!
 //! It judges from lists. A test is a list of seconds and a list of stops; the
 //! lists are cut into attempts, an attempt's counted seconds into settling and
@@ -39,12 +39,14 @@ mod scripted_tests;
 
 // What an input reaches.
 mod reach;
+mod reach_engines;
 mod reach_events;
 mod reach_records;
 mod reach_tests;
 
 // Own asserts.
 mod asserts_bench;
+mod asserts_engine;
 mod asserts_numbers;
 mod asserts_record;
 mod asserts_test;

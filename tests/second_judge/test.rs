@@ -3,7 +3,7 @@
 use crate::attempt::{judge_attempt, Attempt, End, Stop};
 use crate::numbers::Second;
 use crate::vehicle::Vehicle;
-use crate::window::Averages;
+use crate::window::{engine_text, Averages};
 use std::fmt;
 
 #[derive(Clone, Copy, PartialEq, Eq, Debug)]
@@ -107,6 +107,7 @@ pub struct Judged {
     pub passing: usize,
     pub failing: usize,
     pub window: Option<Averages>,
+    pub engine: Option<u128>,
     pub voids: Vec<u8>, // of all its attempts, in order
     pub seconds_used: usize,
     pub stops_used: usize,
@@ -121,9 +122,10 @@ impl fmt::Display for Judged {
             word, self.mode, self.t, self.passing, self.failing
         )?;
         match &self.window {
-            Some(a) => write!(f, "{} {} {}", a.hc, a.co, a.no),
-            None => write!(f, "- - -"),
+            Some(a) => write!(f, "{} {} {}", a.hc, a.co, a.no)?,
+            None => write!(f, "- - -")?,
         }
+        write!(f, " {}", engine_text(self.engine))
     }
 }
 
@@ -180,6 +182,7 @@ fn judged(
         passing: attempt.map_or(0, |a| a.passing),
         failing: attempt.map_or(0, |a| a.failing),
         window: attempt.and_then(|a| a.window),
+        engine: attempt.and_then(|a| a.engine),
         voids,
         seconds_used,
         stops_used,
