@@ -13,8 +13,7 @@ use Rattle.vehicle.specs.Checked.{vehicleOf, checkedOf}
 use Rattle.vehicle.specs.declared.Checked.{Checked}
 use Rattle.vehicle.specs.declared.Checked.the-variants as checked
 use Rattle.vehicle.specs.declared.Settings.{Settings}
-use Rattle.record.specs.Reading.{readRecord, stopCauseIn}
-use Rattle.record.specs.declared.Read.the-variants as read
+use Rattle.record.specs.Reading.{stopCauseIn}
 use Rattle.record.specs.declared.Shape.{Shape}
 use Rattle.loaded_test.specs.Going.{isRunning, hasEnded, endsIn, Goes}
 use Rattle.loaded_test.specs.State.{verdictOf}
@@ -42,13 +41,14 @@ use Rattle.vehicle.specs.Settings.{automatic, unfitPlace}
 use Rattle.correction.specs.Humidity.{saturationFit}
 use Rattle.refusal.specs.Table.{settingUnfit, saturationUnfit}
 use lib.Dec.{eqb}
-use Rattle.rejudging.specs.Rejudging.{settingsOf, saturationOf, startedBy, rejudgedAs, rejudgedBy, rejudgedOf}
+use Rattle.rejudging.specs.Rejudging.{settingsOf, saturationOf}
 use Rattle.rejudging.specs.Rows.{readingsIn, rowStart}
 use Rattle.rejudging.specs.Sheets.{shownFor, shownOf, sheetOf}
 use Rattle.rejudging.specs.Taking.{unitsGiven, rowGiven, itemGiven, stepped, orRefused, ranBy}
 use Rattle.rejudging.specs.declared.Rejudged.the-variants as rejudged
 use Rattle.rejudging.specs.declared.Sheet.{Sheet}
 use Rattle.rejudging.specs.declared.Shown.the-variants as shown
+use Rattle.rejudging.proofs.Tested.{run-of, same-sheet}
 use Rattle.rejudging.proofs.WasRead.{start-fit}
 use Rattle.agreement.specs.Agreement.{eventOf, EventsOf, verdictsIn, verdictShown, Agrees, Agreement}
 use Rattle.agreement.proofs.Causes.{CausesFit, causes-fit}
@@ -88,9 +88,6 @@ unfolding verdictShown sheetOf shownOf
 shows-verdict word.Pass v x e h = rw (e, h)
 shows-verdict word.Fail v x e h = rw (e, h)
 shows-verdict word.Incomplete v x e h = rw (e, h)
-
-same-sheet : (x y : Sheet) → rejudged.Judged x ≡ rejudged.Judged y → x ≡ y
-same-sheet x y e = cc
 
 module _ (s : List ℕ) (shape : Shape) (automatic : Bool) where
   -- After the last item of an open test.
@@ -282,16 +279,6 @@ begun-gearbox settings p = go (eqb (unfitPlace settings) 0) (saturationFit p)
     go true true h = refl
     go true false h = let z : _≡_ {A = ℕ} 0 1 = cc in absurd (omega arith)
     go false b h = let z : _≡_ {A = ℕ} 0 1 = cc in absurd (omega arith)
-
--- What a record that was read comes to is its run.
-run-of :
-    (s : List ℕ) (shape : Shape) (x : Sheet) →
-    readRecord s ≡ read.Fit shape →
-    rejudgedOf s ≡ rejudged.Judged x →
-    ranBy s shape (automatic (settingsOf s shape)) (itemsOf s shape) (begin (settingsOf s shape) (saturationOf s shape) .test)
-    ≡ rejudged.Judged x
-unfolding rejudgedOf rejudgedBy rejudgedAs startedBy
-run-of s shape x e r = rw (e, start-fit s shape e) at r
 
 pub same-verdict : Agreement
 same-verdict s shape x below e r b clock es a ev =

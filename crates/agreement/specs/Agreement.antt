@@ -71,7 +71,7 @@ pub record Agrees (b : Bench) (es : List Event) (x : Sheet) : Type 0 where
   pub accepted : AllAccepted (benchAnswers b es)
   -- the sheet's verdict is the only one that was answered, and none where the sheet is open
   pub verdicts : verdictsIn (benchAnswers b es) ≡ verdictShown (x .word) x
-  -- where the sheet is open, a test runs, and the sheet is that test's: mode, t, counts and averages
+  -- where the sheet is open, a test runs, and the sheet is that test's: mode, t, counts, averages and engine speed
   pub running : x .word ≡ shown.Open → testRuns (benchAfter b es) ≡ true
   pub sheet : x .word ≡ shown.Open → sheetOf (benchAfter b es .test) ≡ x
 

@@ -2,7 +2,7 @@
 use Prim.Native.Nat.{ℕ, _-_, _≤_, _<_}
 use native.Mathlib.Omega.{arith}
 use mathlib.Core.Bool.{Bool, false, _&&_}
-use mathlib.Core.Path.{_≡_, refl, ap, subst, subst⁻¹}
+use mathlib.Core.Path.{_≡_, refl, sym, ap, subst, subst⁻¹}
 use mathlib.Core.List.{List, [], _∷_}
 use lib.Dec.{leb, ltb, eqb}
 use borrow.Author.Tests.{eqb-false, leb-false}
@@ -32,6 +32,8 @@ use Rattle.loaded_test.specs.Settling.{measuringFrom, settlingLeft, clos
 use Rattle.loaded_test.specs.Log.{Entry, Input}
 use Rattle.loaded_test.specs.Claim.{modeAfter, modeIn, begins, voids, InAttempt, begun, goesOn, none, noSecond, attemptIn}
 use Rattle.loaded_test.specs.Windows.{outRow, longestOut, outAll, passingIn, failingIn, speedAt}
+use Rattle.loaded_test.specs.Sheet.{tGoing, tAfter, runIn}
+use Rattle.loaded_test.proofs.Runs.{oldest-none}
 use Rattle.loaded_test.specs.Laws.{voidAdded, voidsKept, voidsIn}
 use Rattle.loaded_test.proofs.Counting.{Counts, attempt-begins, attempt-goes}
 use Rattle.loaded_test.proofs.Holding.{mostSettling, someValid, tallyOf, Told, Open, AtStage, Good, entry}
@@ -104,7 +106,7 @@ module _ (v : Vehicle) (i : Input) (log : List Entry) (last : List window.Measur
       InAttempt log →
       Counts (i ∷ attemptIn log) (p .counted) →
       Good v i log last (turn MeasuringBegan GoesOn (measuringFrom p))
-  unfolding voids tallyOf outRow longestOut outAll passingIn failingIn speedAt someValid
+  unfolding voids tallyOf outRow longestOut outAll passingIn failingIn speedAt someValid runIn tAfter tGoing
   began-good p told bounds least attempt counting = record {
     stage = record {
       told = told-on i log MeasuringBegan refl told;
@@ -113,6 +115,7 @@ module _ (v : Vehicle) (i : Input) (log : List Entry) (last : List window.Measur
         run = [];
         old = last;
         measures = none (goesOn refl refl attempt);
+        same = sym (oldest-none _);
         started = least;
         tally = refl;
         held = refl;

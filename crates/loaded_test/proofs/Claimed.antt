@@ -13,6 +13,7 @@ use Rattle.loaded_test.specs.Steps.{causeFit}
 use Rattle.loaded_test.specs.Log.{Input, aSecond, aStop, step}
 use Rattle.loaded_test.specs.Claims.{TestClaims}
 use Rattle.loaded_test.proofs.Passing.{passes, voids-followed, incomplete-only, fails-only, bounded, last-ten}
+use Rattle.loaded_test.proofs.Shown.{sheet-told, present-shown}
 use Rattle.loaded_test.proofs.Going.{second-goes, stop-goes, stop-refused, second-idle, stop-idle}
 use Rattle.loaded_test.proofs.Examples.{passes-36, open-35}
 
@@ -38,6 +39,8 @@ test-claims = record {
   fail = fails-only;
   bounded = bounded;
   lastTen = last-ten;
+  sheet = sheet-told;
+  present = present-shown;
   seconds = second-goes;
   stops = λ x n e least most. stop-goes x n (fit n least most) e;
   unfit = λ x n e h. stop-refused x n (not-fit n h) e;

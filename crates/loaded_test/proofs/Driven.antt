@@ -11,7 +11,7 @@ use Rattle.loaded_test.specs.declared.Progress.{Progress}
 use Rattle.loaded_test.specs.declared.Stepped.{Stepped}
 use Rattle.loaded_test.specs.declared.Test.{Test}
 use Rattle.loaded_test.specs.Measuring.{judged, measures}
-use Rattle.loaded_test.specs.Steps.{taken, measured, inAttempt, secondAt, second, stop}
+use Rattle.loaded_test.specs.Steps.{measured, inAttempt, secondAt, second, stop}
 
 module _ (x : Test) where
   abbrev Same : Stepped → Type 0
@@ -24,7 +24,7 @@ module _ (x : Test) where
   screened-same Clear clear h = h
 
   measured-same : (s : Second) (p : Progress) → Same (measured x s p)
-  unfolding measured taken measures judged
+  unfolding measured measures judged
   measured-same s p = on-pick Same _ _ _ (λ _. refl) (λ _. refl)
 
   at-same : (s : Second) (st : Stage) → Same (secondAt st x s)

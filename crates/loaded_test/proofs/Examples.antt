@@ -9,7 +9,7 @@ use Rattle.vehicle.specs.Limits.{limitsFor}
 use Rattle.vehicle.specs.Loads.{rowUpTo, displacementBounds, loads, loadFor, targetFor}
 use Rattle.vehicle.specs.Checked.{vehicleOf}
 use Rattle.vehicle.specs.Driving.{aimOf, inTolerance}
-use Rattle.window.specs.Measuring.{secondOut, measuredOf, windowValid}
+use Rattle.window.specs.Measuring.{secondOut, secondSteady, measuredOf, windowValid}
 use Rattle.window.specs.Judging.{sumOf, sumNo, windowPasses}
 use Rattle.attempt.specs.Counting.{inRow, inAll}
 use Rattle.attempt.specs.Screening.{screened}
@@ -22,7 +22,7 @@ use Rattle.loaded_test.specs.declared.Next.the-variants.{GoesOn, Ends}
 use Rattle.loaded_test.specs.Voids.{stepFive}
 use Rattle.loaded_test.specs.Settling.{settlingLeft, closedOne, settlesIn, settles}
 use Rattle.loaded_test.specs.Measuring.{closed, concluded, windowTaken, windowJudged, windowKept, judged, measures}
-use Rattle.loaded_test.specs.Steps.{taken, measured, inAttempt, secondAt, second}
+use Rattle.loaded_test.specs.Steps.{measured, inAttempt, secondAt, second}
 use Rattle.loaded_test.specs.Log.{aSecond, replay, logged, logOf}
 use Rattle.loaded_test.specs.Examples.{motorcycle, row, newest}
 
@@ -31,9 +31,9 @@ pub passes-36 :
     Ends (record { word = Pass; t = 25; passing = 16; failing = 0 })
 unfolding
     pick halfUp kH limitsFor rowUpTo displacementBounds loads loadFor targetFor vehicleOf
-    dcfOf aimOf inTolerance secondOut measuredOf windowValid sumOf sumNo windowPasses inRow inAll screened
+    dcfOf aimOf inTolerance secondOut secondSteady measuredOf windowValid sumOf sumNo windowPasses inRow inAll screened
     ready begunAnew watched settledOne secondOne earlyPass endingRule tallied windowCounted stepFive settlingLeft
-    closedOne settlesIn settles closed concluded windowTaken windowJudged windowKept judged measures inAttempt secondAt taken measured
+    closedOne settlesIn settles closed concluded windowTaken windowJudged windowKept judged measures inAttempt secondAt measured
     second replay logged logOf
 passes-36 = refl
 
@@ -41,8 +41,8 @@ passes-36 = refl
 pub open-35 : newest (logOf motorcycle (replicate 35 (aSecond row))) ≡ GoesOn
 unfolding
     pick halfUp kH limitsFor rowUpTo displacementBounds loads loadFor targetFor vehicleOf
-    dcfOf aimOf inTolerance secondOut measuredOf windowValid sumOf sumNo windowPasses inRow inAll screened
+    dcfOf aimOf inTolerance secondOut secondSteady measuredOf windowValid sumOf sumNo windowPasses inRow inAll screened
     ready begunAnew watched settledOne secondOne earlyPass endingRule tallied windowCounted stepFive settlingLeft
-    closedOne settlesIn settles closed concluded windowTaken windowJudged windowKept judged measures inAttempt secondAt taken measured
+    closedOne settlesIn settles closed concluded windowTaken windowJudged windowKept judged measures inAttempt secondAt measured
     second replay logged logOf
 open-35 = refl

@@ -36,7 +36,7 @@ use Rattle.loaded_test.specs.Voids.{ended, modeEnded, voidCounted, voidN
 use Rattle.loaded_test.specs.Rest.{rested}
 use Rattle.loaded_test.specs.Settling.{settlingLeft, closedOne, closedTwo, settlesIn, settles}
 use Rattle.loaded_test.specs.Measuring.{closed, concluded, judged, measures}
-use Rattle.loaded_test.specs.Steps.{counted, taken, measured, inAttempt, secondAt, second, causeFit, stopTaken, stop}
+use Rattle.loaded_test.specs.Steps.{counted, measured, inAttempt, secondAt, second, causeFit, stopTaken, stop}
 use Rattle.loaded_test.specs.Going.{isRunning, hasEnded, endsIn, Goes}
 use Rattle.loaded_test.proofs.Voiding.{same-end}
 
@@ -135,7 +135,7 @@ at-goes :
     isRunning (x .progress .stage) ≡ true →
     isRunning st ≡ true →
     Goes (secondAt st x s)
-unfolding secondAt isRunning settles taken measured
+unfolding secondAt isRunning settles measured
 at-goes x s NotBegun e o = absurd (nonsense (sym o))
 at-goes x s Settling e o =
     attempt-goes x _ _ e (turned x _ (settles-level (counted (x .progress)) e (x .progress .mode) (x .vehicle) s))

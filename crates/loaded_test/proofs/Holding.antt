@@ -22,6 +22,7 @@ use Rattle.loaded_test.specs.declared.Stepped.{Stepped}
 use Rattle.loaded_test.specs.Windows.{outRow, longestOut, outAll, validHere, passingIn, failingIn, speedAt}
 use Rattle.loaded_test.specs.Log.{Entry, Input, logged}
 use Rattle.loaded_test.specs.Claim.{modeIn, InAttempt, Measures, AllClean, attemptIn, NotYetIn, PassClaim}
+use Rattle.loaded_test.specs.Sheet.{runIn}
 use Rattle.loaded_test.specs.Laws.{Bounded, voidsIn, ninesIn, VoidClaim, IncompleteClaim, FailClaim}
 use Rattle.loaded_test.proofs.Counting.{Counts}
 
@@ -78,6 +79,7 @@ pub record Running (v : Vehicle) (log : List Entry) (p : Progress) (last : List 
   pub run : List Second
   pub old : List Measured
   pub measures : Measures run log
+  pub same : run ≡ runIn log
   pub started : 1 ≤ p .counted
   pub tally : p .measuring ≡ tallyOf v (modeIn log) run
   pub held : take 10 last ≡ take 10 (map (measuredOf v (modeIn log)) run ++ old)

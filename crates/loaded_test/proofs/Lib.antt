@@ -1,11 +1,13 @@
 pub mod Entries
 pub mod Counting
+pub mod Runs
 pub mod Holding
 pub mod Voiding
 pub mod Approach
 pub mod Tally
 pub mod Taking
 pub mod Passing
+pub mod Shown
 pub mod Going
 pub mod Refusing
 pub mod Examples

@@ -27,17 +27,17 @@ use Rattle.loaded_test.specs.State.{nothing, refused}
 use Rattle.loaded_test.specs.Going.{isRunning}
 use Rattle.attempt.specs.Laws.{Screens}
 use Rattle.attempt.proofs.Screens.{screened-exactly}
-use Rattle.loaded_test.specs.Steps.{counted, taken, measured, settled, inAttempt, secondAt, second, isResting, causeFit, stopTaken, stop}
+use Rattle.loaded_test.specs.Steps.{counted, measured, settled, inAttempt, secondAt, second, isResting, causeFit, stopTaken, stop}
 use Rattle.loaded_test.specs.Windows.{windowOf}
 use Rattle.loaded_test.specs.Log.{Entry, Input, aSecond, aStop, step, replay, logged, logOf}
-use Rattle.loaded_test.specs.Claim.{modeIn, voids, Clean, atStart, goesOn, attemptIn, PassClaim}
+use Rattle.loaded_test.specs.Claim.{modeIn, Measures, voids, Clean, atStart, goesOn, attemptIn, PassClaim}
 use Rattle.loaded_test.specs.Laws.{Bounded, voidsIn, ninesIn, VoidClaim, IncompleteClaim, FailClaim, LastTen}
 use Rattle.attempt.proofs.Tests.{nonsense}
 use Rattle.loaded_test.proofs.Counting.{Counts, none-counted, attempt-goes, waits-on, counts-on}
 use Rattle.loaded_test.proofs.Holding.{mostSettling, settling-most, Told, Open, Settles, Runs, AtStage, Good, entry, Stands, Kept}
 use Rattle.loaded_test.proofs.Voiding.{voided-good}
 use Rattle.loaded_test.proofs.Approach.{told-on, nothing-good, rest-good, settles-good}
-use Rattle.loaded_test.proofs.Taking.{kept-turn, measures-good}
+use Rattle.loaded_test.proofs.Taking.{Takes, kept-turn, measures-good}
 
 -- An open test's counts are within their bounds.
 open-bounded : (p : Progress) → Open p → p .voids .voids ≤ 2 → p .voids .inconclusive ≤ 1 → Bounded p
@@ -103,20 +103,18 @@ module _ (x : Test) (log : List Entry) where
       (counted-on s (o .counted) fast clean (h .counting))))
       y q
 
-  measuring-good :
-      (s : Second) (y : Screen) →
-      Screens (x .progress .counted) s y →
+  -- A counted second of measuring.
+  pub takes :
+      (s : Second) →
       x .progress .stage ≡ Measuring →
       Runs (x .vehicle) log (x .progress) (x .last) →
-      Kept (x .vehicle) (aSecond s) log (inAttempt y x (measured x s (counted (x .progress))))
-  unfolding taken measured
-  measuring-good s y q e h =
+      (x .progress .counted ≡ 0 → 10 < s .speed) →
+      Clean s →
+      Takes (x .vehicle) log s (counted (x .progress)) (x .last)
+  takes s e h fast c =
       let o = h .bounds in
       let r = h .running .started in
-      screen-good s _ (h .told) (h .bounds)
-      (λ z slow. absurd (omega arith))
-      (λ fast c. measures-good x log s (counted (x .progress))
-      (record {
+      record {
         stage = e;
         told = h .told;
         bounds = omega arith;
@@ -125,6 +123,7 @@ module _ (x : Test) (log : List Entry) where
           run = h .running .run;
           old = h .running .old;
           measures = h .running .measures;
+          same = h .running .same;
           started = omega arith;
           tally = h .running .tally;
           held = h .running .held;
@@ -135,9 +134,20 @@ module _ (x : Test) (log : List Entry) where
         };
         unspoilt = c;
         counting = counted-on s (o .counted) fast c (h .counting);
-      })
-      (measuredOf (x .vehicle) (x .progress .mode) s)
-      (ap (λ mode. measuredOf (x .vehicle) mode s) (h .told .mode)))
+      }
+
+  measuring-good :
+      (s : Second) (y : Screen) →
+      Screens (x .progress .counted) s y →
+      x .progress .stage ≡ Measuring →
+      Runs (x .vehicle) log (x .progress) (x .last) →
+      Kept (x .vehicle) (aSecond s) log (inAttempt y x (measured x s (counted (x .progress))))
+  unfolding measured
+  measuring-good s y q e h =
+      let r = h .running .started in
+      screen-good s _ (h .told) (h .bounds)
+      (λ z slow. absurd (omega arith))
+      (λ fast c. measures-good x log s (counted (x .progress)) (takes s e h fast c) (x .progress .mode) (h .told .mode))
       y q
 
   second-at :
@@ -280,7 +290,12 @@ last-ten v l e =
     let h : Runs v (logOf v l) (replay v l .progress) (replay v l .last) =
     subst (λ (y : Stage). AtStage y v (logOf v l) (replay v l .progress) (replay v l .last)) e (stands v l .stage) in
     record {
-      run = h .running .run;
-      measures = h .running .measures;
-      same = ten-held (map (measuredOf v (modeIn (logOf v l))) (h .running .run)) (h .running .old) (replay v l .last) (h .running .held);
+      measures = subst (λ (r : List Second). Measures r (logOf v l)) (h .running .same) (h .running .measures);
+      same =
+          subst
+          (λ (r : List Second).
+          take (length (take 10 (map (measuredOf v (modeIn (logOf v l))) r))) (replay v l .last) ≡
+          take 10 (map (measuredOf v (modeIn (logOf v l))) r))
+          (h .running .same)
+          (ten-held (map (measuredOf v (modeIn (logOf v l))) (h .running .run)) (h .running .old) (replay v l .last) (h .running .held));
     }

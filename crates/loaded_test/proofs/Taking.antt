@@ -12,6 +12,7 @@ use borrow.Author.Tests.{eqb-false}
 use Rattle.refusal.proofs.Picked.{on-pick}
 use Rattle.reading.specs.declared.Second.{Second}
 use Rattle.vehicle.specs.declared.Vehicle.{Vehicle}
+use Rattle.vehicle.specs.declared.Mode.{Mode}
 use Rattle.window.specs.declared.Measured as window
 use Rattle.window.specs.Measuring.{measuredOf}
 use Rattle.window.specs.Judging.{windowPasses}
@@ -35,7 +36,9 @@ use Rattle.loaded_test.specs.Measuring.{closed, concluded, windowTaken, 
 use Rattle.loaded_test.specs.Windows.{outOf, outRow, longestOut, outAll, passingIn, failingIn, speedAt, endingOf}
 use Rattle.loaded_test.specs.Log.{Entry, Input, aSecond, logged}
 use Rattle.loaded_test.specs.Claim.{modeAfter, modeIn, voids, InAttempt, goesOn, Measures, none, more, Clean, AllClean, noSecond, andClean, attemptIn}
+use Rattle.loaded_test.specs.Sheet.{tGoing, tAfter, runIn}
 use Rattle.loaded_test.specs.Laws.{Bounded}
+use Rattle.loaded_test.proofs.Runs.{oldest-none, oldest-more}
 use Rattle.loaded_test.proofs.Counting.{Counts, attempt-goes}
 use Rattle.loaded_test.proofs.Holding.{settling-most, someValid, tallyOf, Told, Open, Running, AtStage, Good, Kept}
 use Rattle.loaded_test.proofs.Voiding.{going-ends-not, same-end, fail-pass, incomplete-pass, silent, mode-ended, voided-good, five-good}
@@ -83,7 +86,7 @@ module _
     (v : Vehicle) (log : List Entry) (s : Second) (p : Progress) (last : List window.Measured)
     (h : Takes v log s p last)
   where
-    short : length (h .running .run) ≤ 89
+    pub short : length (h .running .run) ≤ 89
     unfolding tallyOf
     short =
         let e : p .measuring .seconds ≡ length (h .running .run) = ap (λ (k : MeasuringCounts). k .seconds) (h .running .tally) in
@@ -120,7 +123,7 @@ module _
             p .counted ≤ 144 →
             Good v (aSecond s) log (take 10 (measuredOf v (modeIn log) s ∷ last))
             (turn (Measured (suc (length (h .running .run)))) GoesOn (withMeasuring (tallyOf v (modeIn log) (s ∷ h .running .run)) p))
-        unfolding voids modeIn modeAfter tallyOf
+        unfolding voids modeIn modeAfter tallyOf runIn tAfter tGoing
         goes-on e ninety c =
             let b = bounded in
             let n = short in
@@ -140,6 +143,9 @@ module _
                       run = s ∷ h .running .run;
                       old = h .running .old;
                       measures = more refl refl refl (h .running .measures);
+                      same =
+                          ap (λ (l : List Second). s ∷ l) (h .running .same) ∙
+                          sym (oldest-more s (suc (length (h .running .run))) (runIn log) (ap (λ (l : List Second). suc (length l)) (h .running .same)));
                       started = h .running .started;
                       tally = refl;
                       held =
@@ -238,7 +244,7 @@ module _
     -- At u = 3 or w = 6 the run is empty again, and the attempt goes on.
     restarted :
         p .counted ≤ 144 → Good v (aSecond s) log last (turn Restarted GoesOn (withMeasuring noMeasuring p))
-    unfolding voids tallyOf outRow longestOut outAll passingIn failingIn speedAt someValid
+    unfolding voids tallyOf outRow longestOut outAll passingIn failingIn speedAt someValid runIn tAfter tGoing
     restarted c =
         let o = h .bounds in
         record {
@@ -254,6 +260,7 @@ module _
                   run = [];
                   old = last;
                   measures = none (goesOn refl refl (attempt-of (h .running .measures)));
+                  same = sym (oldest-none _);
                   started = h .running .started;
                   tally = refl;
                   held = refl;
@@ -314,7 +321,7 @@ module _
             (concluded-good (omega arith) (omega arith))
 
         -- The window that ends here is counted where it is valid.
-        judged-counts :
+        pub judged-counts :
             windowJudged (windowTaken (k .seconds) (take 10 (measuredOf v (modeIn log) s ∷ last))) v (take 10 (measuredOf v (modeIn log) s ∷ last)) k ≡
             tallyOf v (modeIn log) (s ∷ h .running .run)
         unfolding windowJudged tallied tallyOf
@@ -370,13 +377,16 @@ module _
         kept-turn (x .vehicle) (aSecond s) log _ _ _ (judged-turn (x .vehicle) log s p (x .last) h k counts stays)
 
     pub measures-good :
-        (m : window.Measured) →
-        m ≡ measuredOf (x .vehicle) (modeIn log) s →
-        Kept (x .vehicle) (aSecond s) log (measures x m (tallied (m .out) (s .speed) (p .measuring)) p)
+        (mode : Mode) →
+        mode ≡ modeIn log →
+        Kept (x .vehicle) (aSecond s) log
+        (measures x (measuredOf (x .vehicle) mode s) (tallied (outOf (x .vehicle) mode s) (s .speed) (p .measuring)) p)
     unfolding measures
-    measures-good m e =
+    measures-good mode e =
         subst⁻¹
-        (λ (y : window.Measured). Kept (x .vehicle) (aSecond s) log (measures x y (tallied (y .out) (s .speed) (p .measuring)) p))
+        (λ (y : Mode).
+        Kept (x .vehicle) (aSecond s) log
+        (measures x (measuredOf (x .vehicle) y s) (tallied (outOf (x .vehicle) y s) (s .speed) (p .measuring)) p))
         e
         (on-pick (Kept (x .vehicle) (aSecond s) log) (restarts (tallied (outOf (x .vehicle) (modeIn log) s) (s .speed) (p .measuring))) _ _
         (λ _. kept-turn (x .vehicle) (aSecond s) log (x .last) (x .window) _ (restart-good (x .vehicle) log s p (x .last) h))

@@ -43,7 +43,7 @@ module _
         pushed (measuredOf v mode s) last (map (measuredOf v mode) l) old held ∙
         take-append-le 10 (map (measuredOf v mode) (s ∷ l)) old (rw length-map h)
 
-    taken-here :
+    pub taken-here :
         windowTaken (bump (length l)) (take 10 (measuredOf v mode s ∷ last)) ≡ validHere v mode (s ∷ l)
     unfolding windowTaken validHere
     taken-here =
@@ -57,7 +57,7 @@ module _
         go true e = ap windowValid (window-here (leb-true _ _ e))
         go false e = refl
 
-    valid-window :
+    pub valid-window :
         validHere v mode (s ∷ l) ≡ true → take 10 (measuredOf v mode s ∷ last) ≡ windowOf v mode (s ∷ l)
     unfolding validHere
     valid-window e = window-here (leb-true _ _ (and-left (leb 10 (suc (length l))) (windowValid (windowOf v mode (s ∷ l))) e))

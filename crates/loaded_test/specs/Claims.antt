@@ -7,19 +7,21 @@ use lib.ListN.{replicate}
 use Rattle.refusal.specs.Table.{noTest, causeUnfit}
 use Rattle.reading.specs.declared.Second.{Second}
 use Rattle.vehicle.specs.declared.Vehicle.{Vehicle}
+use Rattle.window.specs.declared.EngineSpeed.the-variants.{Mean}
 use Rattle.loaded_test.specs.declared.Word.the-variants.{Pass}
 use Rattle.loaded_test.specs.declared.Next.the-variants.{GoesOn, Ends}
 use Rattle.loaded_test.specs.declared.Stage.the-variants.{Measuring}
 use Rattle.loaded_test.specs.declared.Test.{Test}
-use Rattle.loaded_test.specs.State.{refused}
+use Rattle.loaded_test.specs.State.{refused, engineShown}
 use Rattle.loaded_test.specs.Going.{isRunning, Goes}
 use Rattle.loaded_test.specs.Steps.{second, stop}
 use Rattle.loaded_test.specs.Log.{Input, aSecond, step, replay, logOf}
 use Rattle.loaded_test.specs.Claim.{PassClaim}
+use Rattle.loaded_test.specs.Sheet.{SheetTold, AllPresentIn}
 use Rattle.loaded_test.specs.Laws.{Bounded, VoidClaim, IncompleteClaim, FailClaim, LastTen}
 use Rattle.loaded_test.specs.Examples.{motorcycle, row, newest}
 
--- The first six: for every vehicle and every list of seconds and stops from the test's beginning. The next four: for every test,
+-- The first eight: for every vehicle and every list of seconds and stops from the test's beginning. The next four: for every test,
 -- whatever its state. The last two: that the pass claim is not empty.
 pub record TestClaims : Type 0 where
   -- a pass is earned by t measured seconds of one attempt, which nothing voids; "in a pass these two count the valid windows in its t seconds"
@@ -37,6 +39,14 @@ pub record TestClaims : Type 0 where
       (v : Vehicle) (l : List Input) →
       replay v l .progress .stage ≡ Measuring →
       LastTen v (logOf v l) (replay v l .last)
+  -- what is shown is of the ten seconds of the last valid window, and so is the engine speed on the sheet
+  pub sheet : (v : Vehicle) (l : List Input) → SheetTold v (logOf v l) (replay v l)
+  -- "With any of the ten missing the field is "-"": where none is missing and there is a window, a number is shown
+  pub present :
+      (v : Vehicle) (l : List Input) →
+      AllPresentIn l →
+      replay v l .progress .measuring .kept ≡ true →
+      (n : ℕ) × (engineShown (replay v l) ≡ Mean n)
   -- a test that runs takes every second; it has ended after it exactly where that told a verdict
   pub seconds : (x : Test) (s : Second) → isRunning (x .progress .stage) ≡ true → Goes (second x s)
   -- the same of "A stop (1 brake, 2 stall, 3 operator, 4 low flow)"

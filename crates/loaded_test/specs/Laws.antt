@@ -7,7 +7,6 @@ use lib.Dec.{eqb}
 use lib.ListN.{length, take}
 use Rattle.refusal.specs.Choice.{pick}
 use Rattle.refusal.specs.declared.Refusal.{Refusal}
-use Rattle.reading.specs.declared.Second.{Second}
 use Rattle.vehicle.specs.declared.Vehicle.{Vehicle}
 use Rattle.vehicle.specs.declared.Mode.{Mode}
 use Rattle.vehicle.specs.declared.Mode.the-variants.{One, Two}
@@ -26,6 +25,7 @@ use Rattle.loaded_test.specs.declared.Stepped.{Stepped}
 use Rattle.loaded_test.specs.Windows.{windowOf}
 use Rattle.loaded_test.specs.Log.{Entry}
 use Rattle.loaded_test.specs.Claim.{modeIn, Measures}
+use Rattle.loaded_test.specs.Sheet.{runIn}
 
 -- "Left as it was: all": where the answer is a refusal, the test is the one that was given, whatever its state.
 abbrev pub BackIfRefused : Test → Stepped → Type 0
@@ -117,6 +117,5 @@ FailClaim (e ∷ log) =
 
 -- In measuring, the last ten seconds are the last ten measured ones, or all where there are fewer.
 pub record LastTen (v : Vehicle) (log : List Entry) (last : List Measured) : Type 0 where
-  pub run : List Second
-  pub measures : Measures run log
-  pub same : take (length (windowOf v (modeIn log) run)) last ≡ windowOf v (modeIn log) run
+  pub measures : Measures (runIn log) log
+  pub same : take (length (windowOf v (modeIn log) (runIn log))) last ≡ windowOf v (modeIn log) (runIn log)

@@ -8,6 +8,7 @@ pub mod Steps
 pub mod Windows
 pub mod Log
 pub mod Claim
+pub mod Sheet
 pub mod Laws
 pub mod Examples
 pub mod Claims

@@ -10,6 +10,8 @@ use Rattle.vehicle.specs.declared.Mode.the-variants.{One}
 use Rattle.vehicle.specs.Driving.{blankVehicle}
 use Rattle.window.specs.declared.Measured.{Measured}
 use Rattle.window.specs.Measuring.{blankMeasured}
+use Rattle.window.specs.Engine.{engineSpeedOf}
+use Rattle.window.specs.declared.EngineSpeed.{EngineSpeed}
 use Rattle.loaded_test.specs.declared.Word.{Word}
 use Rattle.loaded_test.specs.declared.Verdict.{Verdict}
 use Rattle.loaded_test.specs.declared.Did.{Did}
@@ -157,3 +159,7 @@ noneRunning = testOf blankVehicle (emptied One NotBegun noVoids)
 -- "windows empty": the last valid window is read only where there is one; else it has ten blank seconds.
 unfoldable pub lastWindow : Test → List Measured
 lastWindow x = pick (x .progress .measuring .kept) (x .window) (replicate 10 blankMeasured)
+
+-- The engine speed on the sheet (document 02, A.1): "The last valid window keeps its ten engine speeds, and their mean"; none without a window.
+unfoldable pub engineShown : Test → EngineSpeed
+engineShown x = engineSpeedOf (lastWindow x)

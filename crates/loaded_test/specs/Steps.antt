@@ -9,8 +9,7 @@ use Rattle.vehicle.specs.declared.Settings.{Settings}
 use Rattle.vehicle.specs.declared.Checked.{Checked}
 use Rattle.vehicle.specs.declared.Checked.the-variants.{Fit, Refused}
 use Rattle.vehicle.specs.Checked.{checkedOf}
-use Rattle.window.specs.declared.Measured.{Measured}
-use Rattle.window.specs.Measuring.{measuredOf}
+use Rattle.window.specs.Measuring.{secondOut, measuredOf}
 use Rattle.loaded_test.specs.declared.Stage.{Stage}
 use Rattle.loaded_test.specs.declared.Stage.the-variants.{NotBegun, Settling, Measuring, Rest, Ended}
 use Rattle.attempt.specs.declared.Screen.{Screen}
@@ -36,13 +35,13 @@ use Rattle.loaded_test.specs.Measuring.{measures}
 abbrev pub counted : Progress → Progress
 counted p = withCounted (bump (p .counted)) p
 
--- A second's units, taken up by t, u and w.
-unfoldable pub taken : Test → Second → Measured → Progress → Stepped
-taken x s m p = measures x m (tallied (m .out) (s .speed) (p .measuring)) p
-
--- A measured second.
+-- A measured second: its units are kept, and t, u and w take it up.
 unfoldable pub measured : Test → Second → Progress → Stepped
-measured x s p = taken x s (measuredOf (x .vehicle) (p .mode) s) p
+measured x s p =
+    measures x
+    (measuredOf (x .vehicle) (p .mode) s)
+    (tallied (secondOut (x .vehicle) (p .mode) s) (s .speed) (p .measuring))
+    p
 
 -- A second of settling.
 abbrev pub settled : Test → Second → Progress → Stepped

@@ -9,14 +9,14 @@ use Rattle.reading.specs.declared.Second.{Second}
 use Rattle.vehicle.specs.declared.Vehicle.{Vehicle}
 use Rattle.vehicle.specs.declared.Mode.{Mode}
 use Rattle.window.specs.declared.Measured.{Measured}
-use Rattle.window.specs.Measuring.{measuredOf, windowValid}
+use Rattle.window.specs.Measuring.{secondOut, measuredOf, windowValid}
 use Rattle.window.specs.Judging.{windowPasses}
 use Rattle.attempt.specs.declared.Ending.{Ending}
 use Rattle.attempt.specs.Ending.{endingRule, speedHeld}
 
 -- "Out" is speed more than 15 from target or load out of tolerance.
 abbrev pub outOf : Vehicle → Mode → Second → Bool
-outOf v mode s = measuredOf v mode s .out
+outOf v mode s = secondOut v mode s
 
 -- How many of the newest seconds are out in a row.
 unfoldable pub outRow : Vehicle → Mode → List Second → ℕ
@@ -58,6 +58,11 @@ passingIn v mode (s ∷ l) = pick (passesHere v mode (s ∷ l)) (suc (passingIn 
 unfoldable pub failingIn : Vehicle → Mode → List Second → ℕ
 failingIn v mode [] = 0
 failingIn v mode (s ∷ l) = pick (failsHere v mode (s ∷ l)) (suc (failingIn v mode l)) (failingIn v mode l)
+
+-- The last valid window of a run: its ten seconds, newest first; no second where no window of the run is valid.
+unfoldable pub lastValid : Vehicle → Mode → List Second → List Second
+lastValid v mode [] = []
+lastValid v mode (s ∷ l) = pick (validHere v mode (s ∷ l)) (take 10 (s ∷ l)) (lastValid v mode l)
 
 -- The speed of the k-th measured second, 0 where the run is shorter.
 unfoldable pub speedAt : ℕ → List Second → ℕ

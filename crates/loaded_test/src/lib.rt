@@ -17,6 +17,7 @@ mod voids;
 use attempt::MeasuringCounts;
 use attempt::SettlingCounts;
 pub use printed::averages_of;
+pub use printed::engine_speed_of;
 pub use printed::failing_of;
 pub use printed::has_ended;
 pub use printed::has_window;

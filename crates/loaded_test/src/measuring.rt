@@ -193,7 +193,8 @@ fn measured(x: Test, s: Second, p: Progress) -> Stepped
     let mode = p.mode;
     let k = p.measuring;
     let m = window::measured_of(v, mode, s);
-    measures(x, m, tallied(m.out(), s.speed(), k), p)
+    let out = window::second_out(v, mode, s);
+    measures(x, m, tallied(out, s.speed(), k), p)
 }
 
 // A second while measuring.

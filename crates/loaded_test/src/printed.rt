@@ -2,12 +2,13 @@
 ghost use mathlib.Core.Path.{_≡_};
 ghost use Rattle.window.specs.Judging.{averagesOf};
 ghost use Rattle.loaded_test.specs.Going.{isRunning, hasEnded};
-ghost use Rattle.loaded_test.specs.State.{lastWindow};
+ghost use Rattle.loaded_test.specs.State.{lastWindow, engineShown};
 use crate::Progress;
 use crate::Stage;
 use crate::Test;
 use vehicle::Mode;
 use window::Averages;
+use window::EngineSpeed;
 use window::Measured;
 
 // Mode, stage and all counts of document 01's state.
@@ -115,4 +116,12 @@ pub fn averages_of(x: Test) -> Averages
 {
     let v = x.vehicle;
     window::averages_of(v, last_window(x))
+}
+
+// The engine speed of the last valid window; absent where there is none, or where one of its ten seconds has none.
+// Ruled out: that of the last ten seconds, and that of an earlier attempt.
+pub fn engine_speed_of(x: Test) -> EngineSpeed
+    ensures { λ r. ⌜ r ≡ engineShown x ⌝ }
+{
+    window::engine_speed_of(last_window(x))
 }

@@ -1,4 +1,5 @@
 pub mod Bounds
+pub mod Present
 pub mod Exact
 pub mod Fields
 pub mod Halves

@@ -9,4 +9,6 @@ pub mod Begun
 pub mod FirstBytes
 pub mod Lengths
 pub mod Keeping
+pub mod Tested
+pub mod Engine
 pub mod Claimed

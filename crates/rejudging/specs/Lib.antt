@@ -3,6 +3,7 @@ pub mod Items
 pub mod Sheets
 pub mod Taking
 pub mod Rejudging
+pub mod Inputs
 pub mod Line
 pub mod Storing
 pub mod Laws

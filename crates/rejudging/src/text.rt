@@ -5,6 +5,7 @@ use crate::Sheet;
 use crate::Shown;
 use refusal::Refusal;
 use vehicle::Mode;
+use window::EngineSpeed;
 ghost use mathlib.Core.Path.{_≡_};
 ghost use Prim.Native.Nat.{_+_, _≤_};
 ghost use lib.ListN.{length};
@@ -16,6 +17,7 @@ ghost use Rattle.rejudging.specs.Line.{
   modeNumber,
   averagesText,
   windowText,
+  engineText,
   sheetText,
   refusalText,
   lineOf,
@@ -103,6 +105,16 @@ fn put_window(out: &mut [u8], at: usize, window: LastWindow) -> usize
     }
 }
 
+fn put_engine(out: &mut [u8], at: usize, engine: EngineSpeed) -> usize
+    requires { ⌜ at + 21 ≤ length (now out) ⌝ }
+    ensures { λ r. ⌜ Stored (now (out .entry)) at (engineText engine) (now (out .exit)) r × (r ≤ at + 21) ⌝ }
+{
+    match engine {
+        EngineSpeed::Mean(n) => put_number(out, at, n as u64),
+        EngineSpeed::Absent => put_bytes(out, at, b" -"),
+    }
+}
+
 fn put_sheet(out: &mut [u8], x: Sheet) -> usize
     requires { ⌜ 192 ≤ length (now out) ⌝ }
     ensures { λ r. ⌜ Stored (now (out .entry)) 0 (sheetText x) (now (out .exit)) r × (r ≤ 192) ⌝ }
@@ -110,13 +122,15 @@ fn put_sheet(out: &mut [u8], x: Sheet) -> usize
     let word = x.word;
     let mode = x.mode;
     let window = x.window;
+    let engine = x.engine;
     let a = put_word(out, word);
     let b = put_number(out, a, mode_number(mode));
     let c = put_number(out, b, x.t as u64);
     let d = put_number(out, c, x.passing as u64);
     let e = put_number(out, d, x.failing as u64);
     let f = put_window(out, e, window);
-    put_newline(out, f)
+    let g = put_engine(out, f, engine);
+    put_newline(out, g)
 }
 
 fn put_refusal(out: &mut [u8], r: Refusal) -> usize

@@ -169,6 +169,7 @@ fn first(seen: Seen, r: Refusal) -> Seen {
     }
 }
 
+// Whether the ten seconds are a valid window and whether they pass; their averages and their mean engine speed, valid or not.
 fn judged(v: Vehicle, w: [Measured; 10]) {
     if window::valid(w) {
         crate::output::text(b"window valid ");
@@ -186,6 +187,8 @@ fn judged(v: Vehicle, w: [Measured; 10]) {
     crate::output::number(a.co as u64);
     crate::output::text(b" ");
     crate::output::number(a.no as u64);
+    crate::output::text(b" ");
+    crate::output::engine(window::engine_speed_of(w));
     crate::output::text(b"\n");
 }
 

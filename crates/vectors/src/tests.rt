@@ -70,6 +70,9 @@ fn told(y: Stepped) -> Test {
             did_word(did);
             next_word(next);
             state(loaded_test::progress_of(test));
+            crate::output::text(b" engine ");
+            crate::output::engine(loaded_test::engine_speed_of(test));
+            crate::output::text(b"\n");
         }
         Answer::Refused(q) => crate::output::refused(q),
     }
@@ -151,5 +154,4 @@ fn state(p: Progress) {
     count(b" rest ", p.resting);
     count(b" r ", p.voids.voids);
     count(b" q ", p.voids.inconclusive);
-    crate::output::text(b"\n");
 }

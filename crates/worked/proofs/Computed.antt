@@ -1,4 +1,4 @@
--- The starred cases hold: each is computed from the definitions. Assumes nothing.
+-- The starred cases and the figures for document 02's A.1 hold: each is computed from the definitions. Assumes nothing.
 use mathlib.Core.Path.{refl}
 use lib.Ieee.{ofBits, ofFields, odd}
 use Rattle.refusal.specs.Choice.{pick}
@@ -10,12 +10,14 @@ use Rattle.correction.specs.Dilution.{dcfOf}
 use Rattle.correction.specs.Humidity.{kH}
 use Rattle.correction.proofs.Ranges.{k-dry}
 use Rattle.vehicle.specs.Driving.{inTolerance}
+use Rattle.window.specs.Measuring.{measuredOf}
+use Rattle.window.specs.Engine.{engineSum, engineMissing, engineSpeedOf}
 use Rattle.locks.specs.Accepted.{since, any, orElse, latestOf}
 use Rattle.locks.specs.Locks.{notWarm, activeClock, overdue, inactive, expired, noneValid, latestCalibration, notCalibrated, noneGood, latestTry, notSignedIn, wrongTries, wrongRow, passwordLock, authorityLock, withVerdict, verdictsIn, unsentIn, unsentLock, firstStanding, lockInOrder, lockOf}
 use Rattle.worked.specs.Cases.{gases, wrongTries as triedWrong, Worked}
 
 pub worked : Worked
-unfolding ofBits ofFields odd pick readingOf accepted halfUp unitCount judgedOf keep secondFrom secondOf gases quotient.halfUp dcfOf kH inTolerance triedWrong since any orElse latestOf notWarm activeClock overdue inactive expired noneValid latestCalibration notCalibrated noneGood latestTry notSignedIn wrongTries wrongRow passwordLock authorityLock withVerdict verdictsIn unsentIn unsentLock firstStanding lockInOrder lockOf
+unfolding ofBits ofFields odd pick readingOf accepted halfUp unitCount judgedOf keep secondFrom secondOf gases quotient.halfUp dcfOf kH inTolerance measuredOf engineSum engineMissing engineSpeedOf triedWrong since any orElse latestOf notWarm activeClock overdue inactive expired noneValid latestCalibration notCalibrated noneGood latestTry notSignedIn wrongTries wrongRow passwordLock authorityLock withVerdict verdictsIn unsentIn unsentLock firstStanding lockInOrder lockOf
 worked = record {
   coBits = refl;
   coNegative = refl;
@@ -34,4 +36,9 @@ worked = record {
   fourthTry = refl;
   fourthBehind = refl;
   fourthThenGood = refl;
+  engineHalf = refl;
+  engineHalfByOne = refl;
+  engineLess = refl;
+  engineZero = refl;
+  engineOneMissing = refl;
 }

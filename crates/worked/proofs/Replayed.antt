@@ -13,7 +13,7 @@ use Rattle.vehicle.specs.Limits.{limitsFor}
 use Rattle.vehicle.specs.Loads.{rowUpTo, displacementBounds, loads, loadFor, targetFor}
 use Rattle.vehicle.specs.Settings.{ranges, rangeAt, settingFit, unfitPlace}
 use Rattle.window.specs.Judging.{sumOf, sumNo, windowPasses}
-use Rattle.window.specs.Measuring.{secondOut, measuredOf, windowValid}
+use Rattle.window.specs.Measuring.{secondOut, secondSteady, measuredOf, windowValid}
 use Rattle.attempt.specs.Counting.{inRow, inAll}
 use Rattle.attempt.specs.Ending.{atNinety, earlyPass, endingRule}
 use Rattle.attempt.specs.Measuring.{tallied, windowCounted}
@@ -25,7 +25,7 @@ use Rattle.loaded_test.specs.Log.{replay}
 use Rattle.loaded_test.specs.Measuring.{closed, concluded, windowTaken, windowJudged, windowKept, measures}
 use Rattle.loaded_test.specs.Rest.{restCount, rested}
 use Rattle.loaded_test.specs.Settling.{settlingLeft, closedOne, closedTwo, settlesIn, settles}
-use Rattle.loaded_test.specs.Steps.{taken, measured, inAttempt, secondAt, second, isResting, stop, begunBy, begin}
+use Rattle.loaded_test.specs.Steps.{measured, inAttempt, secondAt, second, isResting, stop, begunBy, begin}
 use Rattle.loaded_test.specs.Voids.{modeEnded, voidCounted, voidNext, twiceInconclusive, thirdVoid, voidFollowed, voided, stepFive}
 use Rattle.locks.specs.Accepted.{since, any, orElse, latestOf}
 use Rattle.locks.specs.Locks.{notWarm, activeClock, overdue, inactive, expired, noneValid, latestCalibration, notCalibrated, noneGood, latestTry, notSignedIn, wrongTries, wrongRow, passwordLock, authorityLock, withVerdict, verdictsIn, unsentIn, unsentLock, firstStanding, lockInOrder, lockOf}
@@ -38,7 +38,7 @@ use Rattle.bench.specs.Telling.{secondInput, verdictNext, verdictTold, endedBy,
 use Rattle.worked.specs.Runs.{Played}
 
 pub played : Played
-unfolding benchAnswers pick readingOf accepted unitCount Rattle.reading.specs.Rounding.halfUp judgedOf keep secondFrom secondOf dcfOf kH Rattle.correction.specs.Rounding.halfUp vehicleOf checkedOf aimOf inTolerance limitsFor rowUpTo displacementBounds loads loadFor targetFor ranges rangeAt settingFit firstUnfit unfitPlace sumOf sumNo windowPasses secondOut measuredOf windowValid inRow inAll atNinety earlyPass endingRule tallied windowCounted ready screened begunAnew watched settledOne settledTwo secondOne secondTwo isRunning closed concluded windowTaken windowJudged windowKept measures Rattle.loaded_test.specs.Measuring.judged replay restCount rested settlingLeft closedOne closedTwo settlesIn settles taken measured inAttempt secondAt second isResting stop begunBy begin Rattle.loaded_test.specs.Steps.stopTaken modeEnded voidCounted voidNext twiceInconclusive thirdVoid voidFollowed voided stepFive since any orElse latestOf notWarm activeClock overdue inactive expired noneValid latestCalibration notCalibrated noneGood latestTry notSignedIn wrongTries wrongRow passwordLock authorityLock withVerdict verdictsIn unsentIn unsentLock firstStanding lockInOrder lockOf warmAfter calibratedBy calibratedAfter signedAfter activeAfter wrongAfter securityAfter unsentAfter lockNumber settingAt saturationBad causeBad automaticOf readingFit leastUnfit readingAt lockAt causes firstCause runs lockRuling startTaken secondTaken stepBy step Rattle.bench.specs.Stepping.stopTaken secondInput verdictNext verdictTold endedBy stepTaken leftBy acceptance added tell historyAnswers Rattle.bench.specs.Telling.judged
+unfolding benchAnswers pick readingOf accepted unitCount Rattle.reading.specs.Rounding.halfUp judgedOf keep secondFrom secondOf dcfOf kH Rattle.correction.specs.Rounding.halfUp vehicleOf checkedOf aimOf inTolerance limitsFor rowUpTo displacementBounds loads loadFor targetFor ranges rangeAt settingFit firstUnfit unfitPlace sumOf sumNo windowPasses secondOut secondSteady measuredOf windowValid inRow inAll atNinety earlyPass endingRule tallied windowCounted ready screened begunAnew watched settledOne settledTwo secondOne secondTwo isRunning closed concluded windowTaken windowJudged windowKept measures Rattle.loaded_test.specs.Measuring.judged replay restCount rested settlingLeft closedOne closedTwo settlesIn settles measured inAttempt secondAt second isResting stop begunBy begin Rattle.loaded_test.specs.Steps.stopTaken modeEnded voidCounted voidNext twiceInconclusive thirdVoid voidFollowed voided stepFive since any orElse latestOf notWarm activeClock overdue inactive expired noneValid latestCalibration notCalibrated noneGood latestTry notSignedIn wrongTries wrongRow passwordLock authorityLock withVerdict verdictsIn unsentIn unsentLock firstStanding lockInOrder lockOf warmAfter calibratedBy calibratedAfter signedAfter activeAfter wrongAfter securityAfter unsentAfter lockNumber settingAt saturationBad causeBad automaticOf readingFit leastUnfit readingAt lockAt causes firstCause runs lockRuling startTaken secondTaken stepBy step Rattle.bench.specs.Stepping.stopTaken secondInput verdictNext verdictTold endedBy stepTaken leftBy acceptance added tell historyAnswers Rattle.bench.specs.Telling.judged
 played = record {
   passing = record { bench = refl; history = refl };
   afterVoid = record { bench = refl; history = refl };

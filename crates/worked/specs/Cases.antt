@@ -1,6 +1,7 @@
 -- Document 01, "Worked by hand": the starred cases as one table. Each row sets what the definitions give against what document 01 writes.
+-- At its end stand figures for document 02's A.1, the engine speed on the sheet: what the definitions give against what A.1's sentences ask for.
 use mathlib.Core.Path.{_≡_}
-use mathlib.Core.Bool.{true, false}
+use mathlib.Core.Bool.{Bool, true, false}
 use mathlib.Core.List.{List, [], _∷_}
 use mathlib.Core.Option.{none}
 use Prim.Native.Nat.{ℕ, zero, suc, _<_}
@@ -8,17 +9,24 @@ use Rattle.refusal.specs.Table.{refusal}
 use Rattle.reading.specs.Kind.{readingOf}
 use Rattle.reading.specs.Units.{secondOf}
 use Rattle.reading.specs.declared.Second.{Second}
-use Rattle.reading.specs.declared.Level.the-variants.{Count}
+use Rattle.reading.specs.declared.Level.the-variants.{Count, Missing}
 use Rattle.reading.specs.declared.Converted.{Converted}
 use Rattle.reading.specs.declared.Converted.the-variants.{Fit, Refused}
 use Rattle.correction.specs.Dilution.{dcfOf}
 use Rattle.correction.specs.Humidity.{kH}
 use Rattle.vehicle.specs.Driving.{inTolerance}
+use Rattle.vehicle.specs.Checked.{vehicleOf}
+use Rattle.vehicle.specs.declared.Mode.the-variants.{One}
+use Rattle.window.specs.declared.Measured.{Measured}
+use Rattle.window.specs.declared.EngineSpeed.the-variants.{Mean, Absent}
+use Rattle.window.specs.Measuring.{measuredOf}
+use Rattle.window.specs.Engine.{engineSpeedOf}
 use Rattle.locks.specs.Accepted.{Accepted, accepted}
 use Rattle.locks.specs.Locks.{passwordLock, lockOf}
 use Rattle.locks.specs.declared.Calibration.the-variants.{Passed}
 use Rattle.locks.specs.declared.Try.the-variants.{Good, Wrong}
 use Rattle.locks.specs.declared.Event.the-variants.{WarmUp, Calibration, Try}
+use Rattle.worked.specs.Events.{times, motorcycle}
 
 -- The units of a second whose HC and CO have these bits and whose other readings are 0, with a manual gearbox.
 unfoldable pub gases : ℕ → ℕ → Converted
@@ -68,7 +76,32 @@ goodTry = accepted (Try 40 (Good 1000)) none
 abbrev pub lockAt100 : List Accepted → ℕ
 lockAt100 l = lockOf 86400 10 100 l
 
--- The starred cases of "Worked by hand", one field a case.
+-- What is kept of a second in mode 1 with this engine speed, and whether that is missing: 125 ml, automatic gearbox, at target and load.
+abbrev pub engineKept : ℕ → Bool → Measured
+engineKept engine missing =
+    measuredOf (vehicleOf (motorcycle 125 2) 2339) One
+    (record {
+      speed = 250;
+      load = 85;
+      engine = engine;
+      «engine_missing» = missing;
+      hc = 100;
+      co = record { 0 = 100 };
+      no = 200;
+      co2 = record { 0 = 120 };
+      over = false;
+      oxygen = Missing;
+    })
+
+-- Such a second with this engine speed.
+abbrev pub turning : ℕ → Measured
+turning engine = engineKept engine false
+
+-- Such a second with none.
+abbrev pub engineless : Measured
+engineless = engineKept 0 true
+
+-- The starred cases of "Worked by hand", one field a case; then the figures for document 02's A.1.
 pub record Worked : Type 0 where
   -- CO bits 0x3F80A3D7: 100
   pub coBits : gases 0 0x3F80A3D7 ≡ Fit (counts 0 100)
@@ -96,3 +129,11 @@ pub record Worked : Type 0 where
   pub fourthTry : passwordLock (wrongTries 4) ≡ true
   pub fourthBehind : lockAt100 (wrongTries 4) ≡ 4
   pub fourthThenGood : lockAt100 (goodTry ∷ wrongTries 4) ≡ 5
+  -- Document 02, A.1, "their mean, rounded half up": five 3999 and five 4000 (3999.5): 4000; nine 3999 and one 4004 (3999.5): 4000;
+  -- nine 3999 and one 4003 (3999.4): 3999; ten of 0: 0
+  pub engineHalf : engineSpeedOf (times 5 (turning 3999) (times 5 (turning 4000) [])) ≡ Mean 4000
+  pub engineHalfByOne : engineSpeedOf (times 9 (turning 3999) (turning 4004 ∷ [])) ≡ Mean 4000
+  pub engineLess : engineSpeedOf (times 9 (turning 3999) (turning 4003 ∷ [])) ≡ Mean 3999
+  pub engineZero : engineSpeedOf (times 10 (turning 0) []) ≡ Mean 0
+  -- Document 02, A.1, "With any of the ten missing the field is "-"": nine 4000 and one missing
+  pub engineOneMissing : engineSpeedOf (times 4 (turning 4000) (engineless ∷ times 5 (turning 4000) [])) ≡ Absent

@@ -1,5 +1,5 @@
 -- `measuring::measured` meets its contract. Assumes nothing.
-use Rattle.loaded_test.specs.Steps.{measured, taken}
+use Rattle.loaded_test.specs.Steps.{measured}
 use mathlib.Core.Path.{_∙_}
 use borrow.Author.Needs.{needs}
 use Rattle.loaded_test.proofs.measuring.measured.Statement.{statement}
@@ -8,8 +8,8 @@ use Rattle.loaded_test.proofs.measuring.measured.Tie as tie
 measured-of-requires : tie.Need-measured-of-requires
 measured-of-requires c κs = search needs
 
-out-requires : tie.Need-out-requires
-out-requires c κs = search needs
+second-out-requires : tie.Need-second-out-requires
+second-out-requires c κs = search needs
 
 speed-requires : tie.Need-speed-requires
 speed-requires c κs = search needs
@@ -21,15 +21,15 @@ measures-requires : tie.Need-measures-requires
 measures-requires c κs = search needs
 
 returns : tie.Need-returns
-unfolding measured taken
-returns c = c .measures .ensures ∙ simp (c .before .tallied .ensures, c .before .before .speed .ensures, c .before .before .before .out .ensures, c .before .before .before .before .measured-of .ensures .0)
+unfolding measured
+returns c = c .measures .ensures ∙ simp (c .before .tallied .ensures, c .before .before .speed .ensures, c .before .before .before .second-out .ensures .0, c .before .before .before .before .measured-of .ensures .0)
 
 pub measured-spec : {M : Type 1} → statement M
 measured-spec =
     tie.close
     (tie.spec
     measured-of-requires
-    out-requires
+    second-out-requires
     speed-requires
     tallied-requires
     measures-requires
