@@ -8,8 +8,6 @@ ghost use Rattle.loaded_test.specs.Measuring.{
   closed,
   concluded,
   windowTaken,
-  windowJudged,
-  windowKept,
   judged,
   measures,
 };
@@ -123,40 +121,17 @@ pub(crate) fn stepped(x: Test, turn: Turn) -> Stepped
     stepped_with(v, last, w, turn)
 }
 
-fn window_judged(
-    valid: bool,
-    v: Vehicle,
-    last: [Measured; 10],
-    k: MeasuringCounts,
-) -> MeasuringCounts
-    ensures { λ r. ⌜ r ≡ windowJudged valid v last k ⌝ }
-{
-    if valid {
-        return window_counted(window::passes(v, last), k);
-    }
-    k
-}
-
-fn window_kept(valid: bool, last: [Measured; 10], w: [Measured; 10]) -> [Measured; 10]
-    ensures { λ r. ⌜ r ≡ windowKept valid last w ⌝ }
-{
-    if valid {
-        return last;
-    }
-    w
-}
-
+// Where no valid window ends here, the last one stays.
 fn judged(valid: bool, x: Test, k: MeasuringCounts, p: Progress, last: [Measured; 10]) -> Stepped
     ensures { λ r. ⌜ r ≡ judged valid x k p last ⌝ }
 {
     let v = x.vehicle;
     let w = x.window;
-    stepped_with(
-        v,
-        last,
-        window_kept(valid, last, w),
-        concluded(window_judged(valid, v, last, k), p),
-    )
+    if !valid {
+        return stepped_with(v, last, w, concluded(k, p));
+    }
+    let counts = window_counted(window::passes(v, last), k);
+    stepped_with(v, last, last, concluded(counts, p))
 }
 
 // The last ten seconds with this one.
