@@ -1,12 +1,11 @@
 -- What is shown of a test is of the last valid window that its log tells. Assumes nothing.
-use Prim.Native.Nat.{ℕ, zero, suc, _-_, _≤_, _<_}
+use Prim.Native.Nat.{ℕ, zero, suc, _-_, _<_}
 use native.Mathlib.Omega.{arith}
 use mathlib.Core.Bool.{Bool, true, false, true≢false, _||_}
 use mathlib.Core.Path.{_≡_, refl, sym, ap, _∙_, subst, subst⁻¹}
 use mathlib.Core.List.{List, [], _∷_, map}
-use lib.ListN.{length, take, drop, length-take}
-use borrow.Author.Tests.{leb-true}
-use lib.Dec.{leb}
+use lib.ListN.{length, take, drop}
+use lib.Seq.{length-take-le}
 use Rattle.refusal.specs.Choice.{pick}
 use Rattle.refusal.proofs.Picked.{on-pick}
 use Rattle.reading.specs.declared.Second.{Second}
@@ -16,7 +15,7 @@ use Rattle.vehicle.specs.declared.Mode.the-variants.{One, Two}
 use Rattle.window.specs.declared.Measured as window
 use Rattle.window.specs.declared.EngineSpeed.{EngineSpeed}
 use Rattle.window.specs.declared.EngineSpeed.the-variants.{Mean, Absent}
-use Rattle.window.specs.Measuring.{measuredOf, windowValid}
+use Rattle.window.specs.Measuring.{measuredOf}
 use Rattle.window.specs.Engine.{engineMissing, engineSpeedOf}
 use Rattle.window.specs.Plain.{AllPresent, EngineTold}
 use Rattle.window.proofs.Plainly.{engine-exactly}
@@ -29,7 +28,6 @@ use Rattle.attempt.specs.declared.SettlingCounts.{SettlingCounts}
 use Rattle.attempt.specs.Laws.{Screens}
 use Rattle.attempt.specs.Measuring.{noMeasuring, tallied, restarts}
 use Rattle.attempt.proofs.Screens.{screened-exactly}
-use Rattle.attempt.proofs.Tests.{and-left}
 use Rattle.loaded_test.specs.declared.Word.{Word}
 use Rattle.loaded_test.specs.declared.Word.the-variants.{Pass, Fail, Incomplete}
 use Rattle.loaded_test.specs.declared.Did.{Did}
@@ -57,7 +55,7 @@ use Rattle.loaded_test.specs.Claim.{modeAfter, modeIn, Clean}
 use Rattle.loaded_test.specs.Sheet.{tGoing, tAfter, withInput, oldest, runIn, lastValidIn, WindowTold, SheetTold, AllPresentIn}
 use Rattle.loaded_test.proofs.Runs.{oldest-none, oldest-before, oldest-more}
 use Rattle.loaded_test.proofs.Holding.{someValid, tallyOf, AtStage, Stands, entry}
-use Rattle.loaded_test.proofs.Tally.{taken-here, valid-window}
+use Rattle.loaded_test.proofs.Tally.{valid-ten, taken-here, valid-window}
 use Rattle.loaded_test.proofs.Taking.{Takes, short, judged-counts}
 use Rattle.loaded_test.proofs.Passing.{takes, stands}
 
@@ -340,19 +338,12 @@ shows v (i ∷ l) =
     (subst⁻¹ (λ (w : Vehicle). Stands w (logOf v l) (replay v l)) (h .vehicle) h))
 
 -- A run with a valid window has ten seconds in the last one, and a run without has none.
-ten-of : (n : ℕ) (l : List Second) → n ≤ length l → length (take n l) ≡ n
-ten-of n l h = omega (arith, length-take n l)
-
-valid-ten : (v : Vehicle) (mode : Mode) (l : List Second) → validHere v mode l ≡ true → 10 ≤ length l
-unfolding validHere
-valid-ten v mode l e = leb-true _ _ (and-left (leb 10 (length l)) (windowValid (windowOf v mode l)) e)
-
 some-ten : (v : Vehicle) (mode : Mode) (l : List Second) → someValid v mode l ≡ true → length (lastValid v mode l) ≡ 10
 unfolding someValid lastValid
 some-ten v mode [] e = absurd (true≢false (sym e))
 some-ten v mode (s ∷ l) e =
     on-pick (λ (r : List Second). length r ≡ 10) (validHere v mode (s ∷ l)) _ _
-    (λ f. ten-of 10 (s ∷ l) (valid-ten v mode (s ∷ l) f))
+    (λ f. length-take-le 10 (s ∷ l) (valid-ten v mode (s ∷ l) f))
     (λ f. some-ten v mode l (sym (ap (λ (b : Bool). b || someValid v mode l) f) ∙ e))
 
 none-none : (v : Vehicle) (mode : Mode) (l : List Second) → someValid v mode l ≡ false → lastValid v mode l ≡ []

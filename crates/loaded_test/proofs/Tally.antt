@@ -22,6 +22,11 @@ use Rattle.loaded_test.specs.Windows.{outOf, outRow, outAll, windowOf, v
 use Rattle.loaded_test.proofs.Holding.{someValid, tallyOf}
 use Rattle.attempt.proofs.Tests.{and-left}
 
+-- A valid window has ten seconds.
+pub valid-ten : (v : Vehicle) (mode : Mode) (l : List Second) → validHere v mode l ≡ true → 10 ≤ length l
+unfolding validHere
+valid-ten v mode l e = leb-true _ _ (and-left (leb 10 (length l)) (windowValid (windowOf v mode l)) e)
+
 -- A second pushed onto the last ten.
 pub pushed :
     (m : Measured) (last xs old : List Measured) →
@@ -59,8 +64,7 @@ module _
 
     pub valid-window :
         validHere v mode (s ∷ l) ≡ true → take 10 (measuredOf v mode s ∷ last) ≡ windowOf v mode (s ∷ l)
-    unfolding validHere
-    valid-window e = window-here (leb-true _ _ (and-left (leb 10 (suc (length l))) (windowValid (windowOf v mode (s ∷ l))) e))
+    valid-window e = window-here (valid-ten v mode (s ∷ l) e)
 
     module _
         (row : outRow v mode l ≤ 2) (all : outAll v mode l ≤ 5)
@@ -114,5 +118,5 @@ windows-most v mode [] = omega arith
 windows-most v mode (s ∷ l) =
     one-window (leb 10 (suc (length l)) && windowValid (windowOf v mode (s ∷ l))) (windowPasses v (windowOf v mode (s ∷ l)))
     (length l) (passingIn v mode l) (failingIn v mode l)
-    (λ e. leb-true _ _ (and-left (leb 10 (suc (length l))) (windowValid (windowOf v mode (s ∷ l))) e))
+    (valid-ten v mode (s ∷ l))
     (windows-most v mode l)

@@ -1,3 +1,4 @@
+pub mod Levels
 pub mod Bounds
 pub mod Present
 pub mod Exact
