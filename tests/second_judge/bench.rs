@@ -1,5 +1,6 @@
 //! The bench: the plain history of accepted events, and the locks read from it.
 
+use crate::coast_down::Run;
 use crate::numbers::{judge_readings, refusal, second_of, Refusal};
 use crate::record::cause_fits;
 use crate::running::{Running, Step, Verdict};
@@ -18,6 +19,7 @@ pub enum Event {
     Start([u16; 7], u16),
     Second([u32; 8]),
     Stop(u8),
+    Run(Run),
 }
 
 /// What the history keeps of an accepted event: what the locks read.
@@ -34,6 +36,7 @@ pub enum Kept {
     Start,
     Second,
     Stop,
+    Run(Run),
 }
 
 impl Event {
@@ -50,6 +53,7 @@ impl Event {
             Event::Start(..) => Kept::Start,
             Event::Second(_) => Kept::Second,
             Event::Stop(_) => Kept::Stop,
+            Event::Run(run) => Kept::Run(run),
         }
     }
 }
@@ -116,7 +120,7 @@ impl Bench {
         }
     }
 
-    /// Refusals 4, 5, 15, 8, then 14; what an accepted event does to the test.
+    /// Refusals 4, 5, 15, 8, 16, 17, then 14; what an accepted event does to the test.
     pub fn apply(&mut self, clock: u32, event: &Event) -> Answer {
         match event {
             Event::Start(settings, p) => {
@@ -128,6 +132,7 @@ impl Bench {
             }
             Event::Second(_) | Event::Stop(_) => return self.step(event),
             Event::PowerOn => self.test = None,
+            Event::Run(run) => run.check()?,
             _ => {}
         }
         Ok(None)
@@ -147,13 +152,15 @@ impl Bench {
     /// The first standing lock of a start at `now`.
     pub fn lock(&self, now: u32) -> Option<usize> {
         let all = &self.accepted[..];
-        let powered = after_last(all, |k| matches!(k, Kept::PowerOn | Kept::ClockSetting));
+        let powered = since_power(all);
         let unlocked = after_last(all, |k| *k == Kept::AuthorityUnlock);
         let unsent = after_last(all, |k| *k == Kept::Upload);
         let standing = [
             !holds(powered, Kept::WarmUp),
             too_long_idle(powered, now),
-            calibration_lacks(powered, now, self.v),
+            calibration_lacks(powered, now, self.v)
+                || run_lacks(powered, true)
+                || run_lacks(powered, false),
             sign_in_lacks(powered, now),
             wrong_row(unlocked) >= 4,
             holds(unlocked, Kept::AuthorityLock),
@@ -182,6 +189,11 @@ pub fn after_last(list: &[Accepted], is: impl Fn(&Kept) -> bool) -> &[Accepted] 
     &list[from..]
 }
 
+/// The accepted events since the latest power-on or clock setting.
+pub fn since_power(list: &[Accepted]) -> &[Accepted] {
+    after_last(list, |k| matches!(k, Kept::PowerOn | Kept::ClockSetting))
+}
+
 pub fn holds(list: &[Accepted], kept: Kept) -> bool {
     list.iter().rev().any(|a| a.kept == kept)
 }
@@ -196,7 +208,7 @@ fn too_long_idle(powered: &[Accepted], now: u32) -> bool {
 }
 
 /// Lock 3: no calibration, latest not passed, or older than V.
-fn calibration_lacks(powered: &[Accepted], now: u32, v: u32) -> bool {
+pub fn calibration_lacks(powered: &[Accepted], now: u32, v: u32) -> bool {
     match powered
         .iter()
         .rev()
@@ -205,6 +217,20 @@ fn calibration_lacks(powered: &[Accepted], now: u32, v: u32) -> bool {
         Some(a) => a.kept == Kept::Calibration(false) || now - a.clock > v,
         None => true,
     }
+}
+
+/// Lock 3: no run of this speed, or the latest not passed.
+pub fn run_lacks(powered: &[Accepted], faster: bool) -> bool {
+    !latest_run(powered, faster).is_some_and(|(_, run)| run.passes())
+}
+
+/// The latest run of a speed, and its place in the list.
+pub fn latest_run(list: &[Accepted], faster: bool) -> Option<(usize, Run)> {
+    let mut last_first = list.iter().enumerate().rev();
+    last_first.find_map(|(i, a)| match a.kept {
+        Kept::Run(run) if run.faster == faster => Some((i, run)),
+        _ => None,
+    })
 }
 
 /// Lock 4: no try, latest not good, or its expiry before now.

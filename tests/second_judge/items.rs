@@ -1,6 +1,7 @@
 //! Little-endian items of the modes' input.
 
 use crate::bench::Event;
+use crate::coast_down::Run;
 use crate::record::{u16_at, u32_at};
 
 /// Little-endian items from a run of bytes; None at the end.
@@ -46,6 +47,15 @@ impl<'a> Items<'a> {
         Some(bits)
     }
 
+    pub fn run(&mut self) -> Option<Run> {
+        Some(Run {
+            inertia: self.u16()?,
+            power: self.u16()?,
+            faster: self.u8()? == 1,
+            ms: self.u32()?,
+        })
+    }
+
     /// A 4-byte length and that many bytes.
     pub fn record(&mut self) -> Option<&'a [u8]> {
         let length = self.u32()? as usize;
@@ -69,6 +79,7 @@ impl<'a> Items<'a> {
             9 => Event::Start(self.settings()?, self.u16()?),
             10 => Event::Second(self.readings()?),
             11 => Event::Stop(self.u8()?),
+            12 => Event::Run(self.run()?),
             _ => return None,
         })
     }

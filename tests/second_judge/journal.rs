@@ -3,35 +3,38 @@
 use crate::bench::Event;
 use crate::dice::{some_settings, Dice};
 use crate::driver::unfit_bits;
+use crate::make_runs::{failed_run, unfit_run, PASSED_RUNS};
 use crate::make_tests::{kind_of, unfit_second, unfit_start_at};
 use crate::script::{good_bits, Script};
 use crate::vehicle::Vehicle;
 
+pub const WRONG: Event = Event::Try(None);
+
+pub const SIGN_IN: Event = Event::Try(Some(u32::MAX));
+
+/// What leaves no lock standing where the coast-down runs are in order.
+const RENEWALS: [Event; 5] = [
+    Event::Upload,
+    Event::AuthorityUnlock,
+    Event::WarmUp,
+    Event::Calibration(true),
+    SIGN_IN,
+];
+
 /// What leaves no lock standing, at a clock, where no test is running.
 pub fn ready_bench(at: u32) -> Vec<(u32, Event)> {
-    [
-        Event::Upload,
-        Event::AuthorityUnlock,
-        Event::WarmUp,
-        Event::Calibration(true),
-        Event::Try(Some(u32::MAX)),
-    ]
-    .map(|event| (at, event))
-    .to_vec()
+    let events = RENEWALS.iter().chain(&PASSED_RUNS);
+    events.map(|event| (at, *event)).collect()
 }
 
 /// Writes a list of events case by case.
-struct Journal {
-    v: u32,
-    u: u16,
-    now: u32,
-    events: Vec<(u32, Event)>,
-    dice: Dice,
+pub struct Journal {
+    pub v: u32,
+    pub u: u16,
+    pub now: u32,
+    pub events: Vec<(u32, Event)>,
+    pub dice: Dice,
 }
-
-pub const WRONG: Event = Event::Try(None);
-
-const SIGN_IN: Event = Event::Try(Some(u32::MAX));
 
 impl Journal {
     /// An event so many seconds after the last one.
@@ -60,13 +63,20 @@ impl Journal {
         self.events.extend(ready_bench(self.now));
     }
 
-    /// Everything of `ready_bench` but one kind of event, so many seconds later.
+    /// Everything of `ready_bench` but the runs, which do not age, and one kind
+    /// of event, so many seconds later.
     pub fn renew_but(&mut self, wait: u32, left_out: Event) {
         self.now += wait;
         let kind = kind_of(&left_out);
-        let events = ready_bench(self.now).into_iter();
-        self.events
-            .extend(events.filter(|(_, event)| kind_of(event) != kind));
+        for event in RENEWALS.iter().filter(|event| kind_of(event) != kind) {
+            self.after(0, *event);
+        }
+    }
+
+    /// As `renew_but`, after a power-on or clock setting: with the runs.
+    pub fn ready_but(&mut self, wait: u32, left_out: Event) {
+        self.renew_but(wait, left_out);
+        self.add(&PASSED_RUNS);
     }
 
     pub fn set_clock(&mut self, new: u32) {
@@ -118,7 +128,8 @@ impl Journal {
             unfit,
         ]);
         self.start();
-        for event in [Event::WarmUp, Event::Calibration(true)] {
+        let [faster, slower] = PASSED_RUNS;
+        for event in [Event::WarmUp, Event::Calibration(true), faster, slower] {
             self.after(0, event);
             self.start();
         }
@@ -137,22 +148,27 @@ impl Journal {
         self.play(&mut script);
     }
 
-    /// Lock 2 at 1,801 s, and none at 1,800 s.
+    /// Lock 2 at 1,801 s, and none at 1,800 s: runs do not renew it.
     pub fn idle_lock(&mut self) {
-        for wait in [1800, 1801] {
+        for wait in [800, 801] {
             self.fresh();
+            self.now += 1000;
+            self.add(&PASSED_RUNS);
             self.renew_but(wait, Event::WarmUp);
             self.start();
         }
     }
 
-    /// Lock 3 at V + 1, none at V; a failed calibration after a passed one, and a passed one again.
+    /// Lock 3 at V + 1, none at V, nor with a new calibration and runs older than V;
+    /// a failed calibration after a passed one, and a passed one again.
     pub fn calibration_lock(&mut self) {
         for wait in [self.v, self.v + 1] {
             self.fresh();
             self.renew_but(wait, Event::Calibration(true));
             self.start();
         }
+        self.after(0, Event::Calibration(true));
+        self.start();
         self.fresh();
         for passed in [false, true] {
             self.after(0, Event::Calibration(passed));
@@ -192,7 +208,7 @@ impl Journal {
         self.tries(&[WRONG, WRONG, WRONG, expired, WRONG]);
         self.tries(&[WRONG, WRONG, WRONG, WRONG]);
         self.after(1, Event::PowerOn);
-        self.renew_but(0, Event::AuthorityUnlock);
+        self.ready_but(0, Event::AuthorityUnlock);
         self.start();
         self.after(0, Event::AuthorityUnlock);
         self.start();
@@ -201,7 +217,7 @@ impl Journal {
             self.add(&[WRONG, WRONG, WRONG, between]);
             self.now += 3;
             self.after(0, WRONG);
-            self.renew_but(0, Event::AuthorityUnlock);
+            self.ready_but(0, Event::AuthorityUnlock);
             self.start();
         }
     }
@@ -246,7 +262,7 @@ impl Journal {
         self.after(0, Event::Stop(1));
     }
 
-    /// One event of each kind, and starts that are unfit.
+    /// One event of each kind, and starts and a run that are unfit.
     pub fn one_of_each(&mut self) -> Vec<Event> {
         let mut events = vec![
             Event::PowerOn,
@@ -260,6 +276,8 @@ impl Journal {
             Event::Start(some_settings(&mut self.dice), 2339),
             unfit_second(false, &mut self.dice),
             Event::Stop(0),
+            failed_run(true, &mut self.dice),
+            unfit_run(&mut self.dice),
         ];
         events.extend([1, 8].map(|place| unfit_start_at(place, &mut self.dice)));
         events
@@ -309,13 +327,16 @@ impl Journal {
         }
     }
 
-    /// As `incomplete`, with a second refused 8 before its last stop.
+    /// As `incomplete`, with a second refused 8 and a run refused 12 before its
+    /// last stop.
     pub fn incomplete_after_refused(&mut self, script: &mut Script) {
         self.incomplete(script, 200);
         let stop = self.events.pop();
         self.now -= 200;
         let unfit = unfit_second(script.car.automatic, &mut self.dice);
         self.ahead(100, unfit);
+        let failed = failed_run(false, &mut self.dice);
+        self.ahead(100, failed);
         self.events.extend(stop);
         self.now += 200;
     }
@@ -342,14 +363,14 @@ impl Journal {
         for wait in [1800, 1801] {
             self.set_clock(end - wait);
             self.after(0, Event::WarmUp);
-            self.renew_but(wait, Event::WarmUp);
+            self.ready_but(wait, Event::WarmUp);
             self.start();
             self.after(0, Event::PowerOn);
         }
         for wait in [self.v, self.v + 1] {
             self.set_clock(end - wait);
             self.after(0, Event::Calibration(true));
-            self.renew_but(wait, Event::Calibration(true));
+            self.ready_but(wait, Event::Calibration(true));
             self.start();
             self.after(0, Event::PowerOn);
         }
@@ -363,8 +384,9 @@ impl Journal {
         let mut script = self.start();
         self.good_second(&mut script);
         self.after(1, Event::PowerOn);
+        self.ready_but(0, Event::Upload);
         for _ in 0..self.u {
-            self.renew_but(0, Event::Upload);
+            self.after(0, Event::Calibration(true));
             let mut script = self.start();
             self.ahead(100, Event::Upload);
             self.incomplete(&mut script, 1);
@@ -372,7 +394,7 @@ impl Journal {
         self.renew_but(0, Event::Upload);
         self.start();
         self.after(1, Event::PowerOn);
-        self.renew_but(0, Event::Upload);
+        self.ready_but(0, Event::Upload);
         self.start();
         self.after(0, Event::Upload);
         self.start();
@@ -391,6 +413,7 @@ pub fn scripted_events(v: u32, u: u16, dice: &mut Dice) -> Vec<(u32, Event)> {
     journal.first_events();
     journal.idle_lock();
     journal.calibration_lock();
+    journal.runs();
     journal.sign_in_lock();
     journal.password_lock();
     journal.authority_lock();

@@ -1,9 +1,10 @@
 //! Making input: lists of events, scripted ones and then planned ones.
 
-use crate::bench::{Bench, Event};
+use crate::bench::{calibration_lacks, run_lacks, since_power, Bench, Event};
 use crate::dice::{some_settings, Dice};
 use crate::driver::Driver;
 use crate::journal::scripted_events;
+use crate::make_runs::{any_run, failed_run, passed_run};
 use crate::make_tests::{put_event, unfit_second, unfit_start};
 use crate::named_records::RECORDS;
 use crate::running::Running;
@@ -128,7 +129,7 @@ impl Planner {
     /// Any kind of event, with any fit or unfit fields.
     pub fn any_event(&mut self) -> Event {
         let dice = &mut self.dice;
-        match dice.below(13) {
+        match dice.below(14) {
             0 => Event::PowerOn,
             1 => Event::ClockSetting(dice.below(1_000_000) as u32),
             2 => Event::WarmUp,
@@ -141,6 +142,7 @@ impl Planner {
             9 => Event::Stop(dice.within(0, 5) as u8),
             10 => unfit_second(dice.percent(50), dice),
             11 => unfit_start(dice),
+            12 => any_run(dice),
             _ => self.start(),
         }
     }
@@ -176,6 +178,7 @@ impl Planner {
             }
             88 if bench.u < 20 => self.plan(1, Event::Upload),
             89 => self.plan(1, Event::AuthorityUnlock),
+            90..=93 => self.plan_run(),
             _ => {
                 let event = self.any_event();
                 self.plan_unless_upload(event);
@@ -195,10 +198,7 @@ impl Planner {
     pub fn plan_start(&mut self, bench: &Bench) {
         match bench.lock(bench.last) {
             Some(1 | 2) => self.plan(5, Event::WarmUp),
-            Some(3) => {
-                let passed = self.dice.percent(85);
-                self.plan(0, Event::Calibration(passed));
-            }
+            Some(3) => self.plan_checks(bench),
             Some(4) => {
                 let expiry = bench.last.saturating_add(self.dice.below(20_000) as u32);
                 self.plan(0, Event::Try(Some(expiry)));
@@ -210,6 +210,56 @@ impl Planner {
                 self.plan(0, start);
             }
         }
+    }
+
+    /// What lock 3 asks for and lacks: the calibration, the runs; then perhaps a start.
+    pub fn plan_checks(&mut self, bench: &Bench) {
+        let powered = since_power(&bench.accepted);
+        if calibration_lacks(powered, bench.last, bench.v) {
+            let passed = self.dice.percent(85);
+            self.plan(0, Event::Calibration(passed));
+        }
+        self.plan_lacking_runs(bench);
+        if self.dice.percent(30) {
+            let start = self.start();
+            self.plan(0, start);
+        }
+    }
+
+    /// The runs that lack.
+    pub fn plan_lacking_runs(&mut self, bench: &Bench) {
+        let powered = since_power(&bench.accepted);
+        for faster in self.either_first() {
+            if run_lacks(powered, faster) {
+                self.plan_check_run(faster);
+            }
+        }
+    }
+
+    /// The faster and the slower speed, either first.
+    pub fn either_first(&mut self) -> [bool; 2] {
+        let first = self.dice.percent(50);
+        [first, !first]
+    }
+
+    /// A run that mostly passes; now and then none.
+    pub fn plan_check_run(&mut self, faster: bool) {
+        let event = match self.dice.below(100) {
+            0..=4 => return,
+            5..=14 => failed_run(faster, &mut self.dice),
+            _ => passed_run(faster, &mut self.dice),
+        };
+        self.plan(0, event);
+    }
+
+    /// A run or two of any sort, then a start, which tells what they did.
+    pub fn plan_run(&mut self) {
+        for _ in 0..self.dice.within(1, 2) {
+            let event = any_run(&mut self.dice);
+            self.plan(1, event);
+        }
+        let start = self.start();
+        self.plan(0, start);
     }
 
     /// One to five wrong tries with other events between, then perhaps a good one.
@@ -224,6 +274,9 @@ impl Planner {
         }
         self.plan(1, Event::WarmUp);
         self.plan(0, Event::Calibration(true));
+        for faster in self.either_first() {
+            self.plan_check_run(faster);
+        }
         if self.dice.percent(70) {
             self.plan(0, Event::Try(Some(u32::MAX)));
         }
@@ -237,6 +290,7 @@ impl Planner {
         let late = self.dice.below(2) as u32;
         let start = self.start();
         let expiry = |wait: u32| Event::Try(Some(now.saturating_add(wait)));
+        self.plan_lacking_runs(bench);
         match self.dice.below(3) {
             0 => {
                 self.plan(0, Event::WarmUp);

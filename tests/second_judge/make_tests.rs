@@ -24,6 +24,7 @@ pub fn kind_of(event: &Event) -> u8 {
         Event::Start(..) => 9,
         Event::Second(_) => 10,
         Event::Stop(_) => 11,
+        Event::Run(_) => 12,
     }
 }
 
@@ -47,6 +48,11 @@ pub fn put_event(out: &mut Vec<u8>, clock: Option<u32>, event: &Event) {
         }
         Event::Second(bits) => bits.iter().for_each(|b| out.extend(b.to_le_bytes())),
         Event::Stop(cause) => out.push(*cause),
+        Event::Run(run) => {
+            put_words(out, &[run.inertia, run.power]);
+            out.push(run.faster as u8);
+            out.extend(run.ms.to_le_bytes());
+        }
         _ => {}
     }
 }

@@ -1,6 +1,9 @@
 //! The judge's own asserts: document 01's worked cases and its plausible and wrong ones.
 
 use crate::asserts_bench::{after_tries, check_bench, check_locks, check_tries, last_answer, GOOD};
+use crate::asserts_coast_down::{
+    check_run_ages, check_run_ends, check_run_items, check_run_locks, check_run_refusals,
+};
 use crate::asserts_engine::{check_engines, check_gathered, check_means};
 use crate::asserts_numbers::{check_corrections, check_readings, check_rounding, check_windows};
 use crate::asserts_record::{
@@ -196,6 +199,11 @@ pub fn selftest() -> bool {
     check_tries(&mut checks);
     check_locks(&mut checks);
     check_bench(&mut checks);
+    check_run_ends(&mut checks);
+    check_run_locks(&mut checks);
+    check_run_ages(&mut checks);
+    check_run_refusals(&mut checks);
+    check_run_items(&mut checks);
     check_plausible(&mut checks);
     check_growing(&mut checks);
     check_gathered(&mut checks);

@@ -1,16 +1,18 @@
 //! Reach: lists of events.
 
-use crate::bench::{after_last, holds, wrong_row, Accepted, Bench, Event, Kept};
+use crate::bench::{after_last, holds, since_power, wrong_row, Accepted, Bench, Event, Kept};
 use crate::items::Items;
 use crate::make_tests::kind_of;
 use crate::numbers::Refusal;
 use crate::reach::{names, texts, Reach};
+use crate::reach_runs::{reach_run_refused, reach_start, run_names};
 
 /// What of a list of events must be looked at with those before it.
 #[derive(Default)]
 struct Trail {
     refused: Vec<(u32, u8, u8)>, // clock, kind and number of those refused since the last accepted one
     unfit_second: Option<u32>,   // refused 8 since the latest warm-up or second
+    failed_runs: Vec<u8>, // refusals of failed runs since the latest run, power-on or clock setting
     quiet_stop: Option<(u32, &'static str)>, // the last event: a stop that changed only the clock, from this
 }
 
@@ -64,9 +66,11 @@ pub fn reach_events(data: &[u8]) -> Reach {
     required.extend(names("refused 4 ", 1..=7));
     required.extend(texts(&["refused 5 0", "refused 13 0", "refused 15 0"]));
     required.extend(names("refused 8 ", 1..=8));
-    required.extend(names("refused 11 kind ", 1..=11));
+    required.extend(names("refused 11 kind ", 1..=12));
     required.extend(names("refused 12 kind ", 2..=9));
+    required.extend(names("refused 12 kind ", 12..=12));
     required.extend(texts(&SPECIAL));
+    required.extend(run_names());
     let mut reach = Reach::new(required);
     let mut items = Items { data };
     let (v, u) = (items.u32().unwrap_or(0), items.u16().unwrap_or(0));
@@ -135,11 +139,18 @@ impl Trail {
             (14, lock) => {
                 reach.count(format!("lock {lock}"));
                 self.locked(reach, bench, clock, lock);
+                reach_start(reach, bench, clock, Some(lock));
             }
             _ => reach.count(refusal.to_string()),
         }
         if refusal.number == 8 {
             self.unfit_second = Some(clock);
+        }
+        if let Event::Run(run) = event {
+            reach_run_refused(reach, run, refusal);
+            if !run.passes() {
+                self.failed_runs.push(refusal.number);
+            }
         }
         self.refused.push((clock, kind, refusal.number));
     }
@@ -166,22 +177,49 @@ impl Trail {
                 reach.count(REFUSED_SECOND);
             }
         }
-        let stop = powered(bench).iter().rev().find(|a| a.kept == Kept::Stop);
-        if stop.is_some_and(|a| near(a.clock)) {
+        let recently = |is: fn(&Kept) -> bool| {
+            let mut latest_first = powered(bench).iter().rev();
+            latest_first.any(|a| is(&a.kept) && near(a.clock))
+        };
+        if recently(|k| *k == Kept::Stop) {
             reach.count("lock 2 within 1,800 s of a stop");
+        }
+        if recently(|k| matches!(k, Kept::Run(_))) {
+            reach.count("lock 2 within 1,800 s of a run");
         }
     }
 
     fn accepted(&mut self, reach: &mut Reach, bench: &Bench, clock: u32, event: &Event) {
         match event {
             Event::Second(_) => self.second_taken(reach, clock),
-            Event::Start(..) => reach_admitted(reach, bench, clock),
+            Event::Start(..) => self.start_admitted(reach, bench, clock),
+            Event::Run(_) | Event::PowerOn | Event::ClockSetting(_) => self.failed_runs.clear(),
             _ => {}
         }
         if matches!(event, Event::Second(_) | Event::WarmUp) {
             self.unfit_second = None;
         }
+        self.unfit_run_before(reach, clock);
         self.refused.clear();
+    }
+
+    fn start_admitted(&self, reach: &mut Reach, bench: &Bench, clock: u32) {
+        reach_admitted(reach, bench, clock);
+        reach_start(reach, bench, clock, None);
+        for number in &self.failed_runs {
+            reach.count(format!("failed run refused {number}: start admitted"));
+        }
+    }
+
+    /// An event earlier than a run that was refused for its fields.
+    fn unfit_run_before(&self, reach: &mut Reach, clock: u32) {
+        for (_, _, number) in self.refused.iter().filter(|(refused, ..)| *refused > clock) {
+            if matches!(number, 16 | 17) {
+                reach.count(format!(
+                    "refused {number} with a later clock, then an event"
+                ));
+            }
+        }
     }
 
     /// A second earlier than what was refused since the last accepted event.
@@ -199,9 +237,7 @@ impl Trail {
 
 /// The accepted events since the latest power-on or clock setting.
 fn powered(bench: &Bench) -> &[Accepted] {
-    after_last(&bench.accepted, |k| {
-        matches!(k, Kept::PowerOn | Kept::ClockSetting)
-    })
+    since_power(&bench.accepted)
 }
 
 /// The clock of the latest warm-up or second.

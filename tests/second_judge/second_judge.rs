@@ -11,6 +11,7 @@
 // Judging.
 mod attempt;
 mod bench;
+mod coast_down;
 mod numbers;
 mod record;
 mod rejudging;
@@ -27,11 +28,13 @@ mod modes;
 mod dice;
 mod driver;
 mod journal;
+mod journal_runs;
 mod make_corrections;
 mod make_events;
 mod make_readings;
 mod make_record_vectors;
 mod make_records;
+mod make_runs;
 mod make_tests;
 mod named_records;
 mod script;
@@ -42,10 +45,12 @@ mod reach;
 mod reach_engines;
 mod reach_events;
 mod reach_records;
+mod reach_runs;
 mod reach_tests;
 
 // Own asserts.
 mod asserts_bench;
+mod asserts_coast_down;
 mod asserts_engine;
 mod asserts_numbers;
 mod asserts_record;
