@@ -62,7 +62,7 @@ module _ (validity limit : ℕ) (h : History) (e : Event) where
       others : firstCause (drop 1 rows) ≡ some (clockEarlier n) → ⊥
       others =
           none-has (drop 1 rows) (clockEarlier n)
-          (eqb-false 12 11 refl, (eqb-false 13 11 refl, (eqb-false 4 11 refl, (eqb-false 5 11 refl, (eqb-false 15 11 refl, (eqb-false 8 11 refl, (eqb-false 14 11 refl, tt)))))))
+          (eqb-false 12 11 refl, (eqb-false 13 11 refl, (eqb-false 4 11 refl, (eqb-false 5 11 refl, (eqb-false 15 11 refl, (eqb-false 8 11 refl, (eqb-false 16 11 refl, (eqb-false 17 11 refl, (eqb-false 14 11 refl, tt)))))))))
 
       go :
           (b : Bool) →
@@ -171,6 +171,8 @@ locked-least validity limit h e n c = go (startIn e) (last .0) (last .1)
         (past _ _ r
         (past _ _ r
         (past _ _ r
+        (past _ _ r
+        (past _ _ r
         (past _ _ r c
         (differ 11 14 _ n (eqb-false 11 14 refl)))
         (differ 12 14 _ n (eqb-false 12 14 refl)))
@@ -179,6 +181,8 @@ locked-least validity limit h e n c = go (startIn e) (last .0) (last .1)
         (differ 5 14 _ n (eqb-false 5 14 refl)))
         (differ 15 14 _ n (eqb-false 15 14 refl)))
         (differ 8 14 _ n (eqb-false 8 14 refl)))
+        (differ 16 14 _ n (eqb-false 16 14 refl)))
+        (differ 17 14 _ n (eqb-false 17 14 refl)))
 
     go :
         (o : Option Starting) →

@@ -178,7 +178,7 @@ module _ (validity limit : ℕ) (l : List Accepted) (last : ℕ) where
       let place : unfitPlace settings ≡ 0 = eqb-true _ _ (not-false _ (n .1 .1 .1 .0)) in
       let vapour : saturationFit p ≡ true = not-false _ (n .1 .1 .1 .1 .0) in
       let free : Unlocked validity limit clock l =
-      unlocked validity limit clock l (eqb-true _ _ (not-false _ (n .1 .1 .1 .1 .1 .1 .1 .0))) in
+      unlocked validity limit clock l (eqb-true _ _ (not-false _ (n .1 .1 .1 .1 .1 .1 .1 .1 .1 .0))) in
       let other : unsentIn l ≡ limit → ⊥ = eqb-false (unsentIn l) limit (free .unsent) in
       record {
         unsent = u;

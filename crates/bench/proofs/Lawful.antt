@@ -87,7 +87,7 @@ never-admitted validity es clock settings saturation = go (isAccepted (answerAft
     go true h =
         let rows = demanded validity 0 (omega arith) .accepted es e .0 h in
         let none : Unlocked validity 0 clock (historyOf validity 0 es .events) =
-        unlocked validity 0 clock (historyOf validity 0 es .events) (eqb-true _ _ (not-false _ (rows .1 .1 .1 .1 .1 .1 .1 .0))) in
+        unlocked validity 0 clock (historyOf validity 0 es .events) (eqb-true _ _ (not-false _ (rows .1 .1 .1 .1 .1 .1 .1 .1 .1 .0))) in
         absurd
         (eqb-false (unsentIn (historyOf validity 0 es .events)) 0 (none .unsent)
         (omega (arith, sound validity 0 (omega arith) es .unsent)))

@@ -26,7 +26,7 @@ use Rattle.bench.specs.declared.Bench.{Bench}
 use Rattle.bench.specs.declared.Handled.{Handled}
 use Rattle.bench.specs.declared.Ruling.{Ruling}
 use Rattle.bench.specs.declared.Ruling.the-variants as ruling
-use Rattle.bench.specs.Stepping.{startRuling, startJudged, startTaken, followed, answered, secondJudged, secondTaken, stopTaken, taken, stepBy, step}
+use Rattle.bench.specs.Stepping.{serviceRuling, serviceJudged, serviceTaken, startRuling, startJudged, startTaken, followed, answered, secondJudged, secondTaken, stopTaken, taken, stepBy, step}
 use Rattle.bench.specs.Demand.{benchAfter, benchAnswers}
 use Rattle.bench.specs.Laws.{BackIfRefused}
 
@@ -57,9 +57,13 @@ module _ (b : Bench) (e : Event) where
   start-back ruling.Taken t r h = absurd (accepted-not r h)
   start-back (ruling.Refused y) t r h = refl
 
+  service-back : (x : Ruling) → BackIfRefused b (serviceJudged x b e)
+  service-back ruling.Taken r h = absurd (accepted-not r h)
+  service-back (ruling.Refused y) r h = refl
+
   taken-back : (x : Carried) → BackIfRefused b (taken b e x)
-  unfolding startTaken secondTaken stopTaken
-  taken-back (carried.Service x) = λ r h. absurd (accepted-not r h)
+  unfolding serviceTaken startTaken secondTaken stopTaken
+  taken-back (carried.Service x) = service-back (serviceRuling x)
   taken-back (carried.Start settings p) =
       start-back (startRuling (begin settings p .answer) (b .desk) (clockOf e)) (begin settings p .test)
   taken-back (carried.Second readings) = second-back (secondOf readings (b .test .vehicle .automatic))

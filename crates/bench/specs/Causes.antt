@@ -1,4 +1,5 @@
--- The rows of document 01's refusal table that can refuse an event, in their order: "Events: 11, 12 or 13, then 4, 5, 15 or 8, then 14."
+-- The rows of document 01's refusal table that can refuse an event, in their order: "Events: 11, 12 or 13, then 4, 5, 15 or 8, then 14.",
+-- with those that document 02, A.2, adds for a coast-down run: "16 inertia out of range, then 17 power, after 12".
 -- They judge by V, U and the history alone.
 use Prim.Native.Nat.{ℕ}
 use mathlib.Core.Bool.{Bool, false, not, _&&_, _||_}
@@ -6,15 +7,17 @@ use mathlib.Core.List.{List, [], _∷_}
 use mathlib.Core.Option.{Option, none, some}
 use lib.Dec.{ltb, eqb}
 use Rattle.refusal.specs.Choice.{pick}
-use Rattle.refusal.specs.Table.{clockEarlier, testRunning, noTest, settingUnfit, saturationUnfit, causeUnfit, readingUnfit, startLocked}
+use Rattle.refusal.specs.Table.{clockEarlier, testRunning, noTest, settingUnfit, saturationUnfit, causeUnfit, readingUnfit, inertiaUnfit, powerUnfit, startLocked}
 use Rattle.refusal.specs.declared.Refusal.{Refusal}
 use Rattle.reading.specs.declared.Readings.{Readings}
 use Rattle.reading.specs.Fitness.{leastUnfit}
 use Rattle.correction.specs.Humidity.{saturationFit}
 use Rattle.vehicle.specs.Settings.{automatic, unfitPlace}
 use Rattle.loaded_test.specs.Steps.{causeFit}
+use Rattle.coast_down.specs.declared.Run.{Run}
+use Rattle.coast_down.specs.Passing.{inertiaFit, powerFit}
 use Rattle.locks.specs.declared.Event.{Event}
-use Rattle.locks.specs.Events.{kindOf, clockOf, startIn, readingsIn, causeIn, Starting}
+use Rattle.locks.specs.Events.{kindOf, clockOf, startIn, readingsIn, causeIn, runIn, Starting}
 use Rattle.locks.specs.Accepted.{Accepted, latestOf}
 use Rattle.locks.specs.Locks.{lockOf}
 use Rattle.bench.specs.History.{History, runs}
@@ -55,6 +58,16 @@ unfoldable pub causeBad : Option ℕ → Bool
 causeBad none = false
 causeBad (some n) = not (causeFit n)
 
+-- "16 inertia out of range", in a coast-down run.
+unfoldable pub inertiaBad : Option Run → Bool
+inertiaBad none = false
+inertiaBad (some run) = not (inertiaFit (run .inertia))
+
+-- "then 17 power"
+unfoldable pub powerBad : Option Run → Bool
+powerBad none = false
+powerBad (some run) = not (powerFit (run .power))
+
 -- The gearbox (2 automatic) is that of the latest start.
 unfoldable pub automaticOf : Option Starting → Bool
 automaticOf none = false
@@ -92,6 +105,8 @@ causes validity limit h e =
     ∷ cause (saturationBad (startIn e)) (saturationUnfit 0)
     ∷ cause (causeBad (causeIn e)) causeUnfit
     ∷ causeAt (readingAt (automaticIn (h .events)) (readingsIn e)) readingUnfit
+    ∷ cause (inertiaBad (runIn e)) inertiaUnfit
+    ∷ cause (powerBad (runIn e)) powerUnfit
     ∷ locked (lockAt validity limit (clockOf e) (h .events) (startIn e))
     ∷ []
 

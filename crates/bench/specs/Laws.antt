@@ -52,10 +52,10 @@ pub record Laws (validity limit : ℕ) : Type 0 where
       (es : List Event) (e : Event) (r : Refusal) (fs : List Event) (f : Event) →
       answerAfter validity limit es e ≡ Refused r →
       answerAfter validity limit (es ++ e ∷ fs) f ≡ answerAfter validity limit (es ++ fs) f
-  -- "Events: 11, 12 or 13, then 4, 5, 15 or 8, then 14.": the rows of which the first that stands refuses
+  -- "Events: 11, 12 or 13, then 4, 5, 15 or 8, then 14.", and "16 .., then 17 .., after 12": the rows of which the first that stands refuses
   pub order :
       (h : History) (e : Event) →
-      map (λ c. c .refusal .number) (causes validity limit h e) ≡ 11 ∷ 12 ∷ 13 ∷ 4 ∷ 5 ∷ 15 ∷ 8 ∷ 14 ∷ []
+      map (λ c. c .refusal .number) (causes validity limit h e) ≡ 11 ∷ 12 ∷ 13 ∷ 4 ∷ 5 ∷ 15 ∷ 8 ∷ 16 ∷ 17 ∷ 14 ∷ []
   -- "A start is locked by the first standing one"
   pub least :
       (es : List Event) (e : Event) (n : ℕ) →

@@ -3,7 +3,7 @@ use Prim.Native.Nat.{ℕ}
 use mathlib.Core.Bool.{Bool, not, _&&_}
 use lib.Dec.{ltb, leb}
 use Rattle.refusal.specs.Choice.{pick}
-use Rattle.refusal.specs.Table.{clockEarlier, testRunning, noTest, startLocked, causeUnfit}
+use Rattle.refusal.specs.Table.{clockEarlier, testRunning, noTest, startLocked, causeUnfit, inertiaUnfit, powerUnfit}
 use Rattle.refusal.specs.declared.Refusal.{Refusal}
 use Rattle.reading.specs.declared.Readings.{Readings}
 use Rattle.reading.specs.declared.Converted.{Converted}
@@ -22,8 +22,12 @@ use Rattle.loaded_test.specs.declared.Test.{Test}
 use Rattle.loaded_test.specs.State.{noneRunning}
 use Rattle.loaded_test.specs.Going.{isRunning}
 use Rattle.loaded_test.specs.Steps.{begin, second, stop}
+use Rattle.coast_down.specs.declared.Run.{Run}
+use Rattle.coast_down.specs.Passing.{inertiaFit, powerFit}
 use Rattle.locks.specs.declared.Locks.{Locks}
 use Rattle.locks.specs.declared.Event.{Event}
+use Rattle.locks.specs.declared.Service.{Service}
+use Rattle.locks.specs.declared.Service.the-variants as service
 use Rattle.locks.specs.declared.Carried.{Carried}
 use Rattle.locks.specs.declared.Carried.the-variants as carried
 use Rattle.locks.specs.declared.Contents.{Contents}
@@ -63,6 +67,35 @@ plainTaken d e = record { answer = answer.Accepted; bench = withNone d e (locksA
 abbrev pub firstRefusal : Ruling → Ruling → Ruling
 firstRefusal (Refused r) y = Refused r
 firstRefusal Taken y = y
+
+-- 16, where the inertia of a coast-down run is out of its range.
+unfoldable pub inertiaRuling : ℕ → Ruling
+inertiaRuling inertia = pick (inertiaFit inertia) Taken (Refused inertiaUnfit)
+
+-- 17, where its power is.
+unfoldable pub powerRuling : ℕ → Ruling
+powerRuling power = pick (powerFit power) Taken (Refused powerUnfit)
+
+-- "16 inertia out of range, then 17 power"
+abbrev pub runRuling : Run → Ruling
+runRuling run = firstRefusal (inertiaRuling (run .inertia)) (powerRuling (run .power))
+
+-- Of the events that are no start, second or stop, a coast-down run alone can be unfit.
+abbrev pub serviceRuling : Service → Ruling
+serviceRuling service.Nothing = Taken
+serviceRuling (service.NewClock new) = Taken
+serviceRuling (service.Outcome outcome) = Taken
+serviceRuling (service.Tried outcome) = Taken
+serviceRuling (service.Ran run) = runRuling run
+
+-- Such an event by its ruling.
+abbrev pub serviceJudged : Ruling → Bench → Event → Handled
+serviceJudged Taken b e = plainTaken (b .desk) e
+serviceJudged (Refused r) b e = refused r b
+
+-- An event that is no start, second or stop.
+unfoldable pub serviceTaken : Bench → Event → Service → Handled
+serviceTaken b e x = serviceJudged (serviceRuling x) b e
 
 -- 4 or 5, as the test's beginning tells.
 abbrev pub fitness : TestStart → Ruling
@@ -132,7 +165,7 @@ stopTaken b e cause = testTaken (stop (b .test) cause) b e
 
 -- An event that 11, 12 and 13 do not refuse, by what it carries.
 abbrev pub taken : Bench → Event → Carried → Handled
-taken b e (carried.Service x) = plainTaken (b .desk) e
+taken b e (carried.Service x) = serviceTaken b e x
 taken b e (carried.Start settings p) = startTaken b e settings p
 taken b e (carried.Second readings) = secondTaken b e readings
 taken b e (carried.Stop cause) = stopTaken b e cause

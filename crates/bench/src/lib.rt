@@ -1,4 +1,4 @@
-// Document 01, "Locks of the bench": one bench, which takes the eleven kinds of event in any order.
+// Document 01, "Locks of the bench", and document 02, A.2: one bench, which takes the twelve kinds of event in any order.
 // Exported: open, which gives a fresh bench or refuses V or U, and step, which takes one event and answers it; Event and its outcomes.
 // specs/History.antt, Causes.antt and Telling.antt are the plain history; specs/Demand.antt is demand 3, which open carries.
 ghost use mathlib.Core.Path.{_≡_};
@@ -11,6 +11,8 @@ mod taking;
 
 use crate::taking::refused;
 use crate::taking::taken;
+pub use coast_down::Run;
+pub use coast_down::SpeedRange;
 use loaded_test::Test;
 use loaded_test::Verdict;
 pub use locks::Calibration;
@@ -123,7 +125,7 @@ fn outside_test(kind: u8) -> bool
     !((kind == 1) | inside_test(kind))
 }
 
-// One event: its answer and the next bench. 11, 12 or 13, then 4, 5, 15 or 8, then 14; a refused event gives back the same bench.
+// One event: its answer and the next bench. 11, 12 or 13, then 4, 5, 15, 8, 16 or 17, then 14; a refused event gives back the same bench.
 // Ruled out: a refused event that moves the clock, and a start told of its lock before its settings are looked at.
 pub fn step(bench: Bench, event: Event) -> Handled
     ensures { λ r. ⌜ (r ≡ step bench event) × BackIfRefused bench r ⌝ }

@@ -8,6 +8,12 @@ ghost use Rattle.bench.specs.Stepping.{
   withNone,
   plainTaken,
   firstRefusal,
+  inertiaRuling,
+  powerRuling,
+  runRuling,
+  serviceRuling,
+  serviceJudged,
+  serviceTaken,
   fitness,
   lockRuling,
   startRuling,
@@ -26,6 +32,7 @@ use crate::Bench;
 use crate::Desk;
 use crate::Handled;
 use crate::Ruling;
+use coast_down::Run;
 use loaded_test::Next;
 use loaded_test::Start;
 use loaded_test::Stepped;
@@ -34,11 +41,22 @@ use loaded_test::Verdict;
 use locks::Carried;
 use locks::Event;
 use locks::Locks;
+use locks::Service;
 use reading::Converted;
 use reading::Readings;
 use reading::Second;
 use refusal::Refusal;
 use vehicle::Settings;
+
+const INERTIA_UNFIT: Refusal = Refusal {
+    number: refusal::INERTIA_UNFIT,
+    place: 0,
+};
+
+const POWER_UNFIT: Refusal = Refusal {
+    number: refusal::POWER_UNFIT,
+    place: 0,
+};
 
 // A refused event gives back the same bench.
 pub(crate) fn refused(r: Refusal, bench: Bench) -> Handled
@@ -98,6 +116,65 @@ fn first_refusal(x: Ruling, y: Ruling) -> Ruling
         Ruling::Taken => y,
         Ruling::Refused(r) => Ruling::Refused(r),
     }
+}
+
+fn inertia_ruling(inertia: u16) -> Ruling
+    ensures { λ r. ⌜ r ≡ inertiaRuling inertia ⌝ }
+{
+    let fit = coast_down::inertia_fit(inertia);
+    if fit {
+        return Ruling::Taken;
+    }
+    Ruling::Refused(INERTIA_UNFIT)
+}
+
+fn power_ruling(power: u16) -> Ruling
+    ensures { λ r. ⌜ r ≡ powerRuling power ⌝ }
+{
+    let fit = coast_down::power_fit(power);
+    if fit {
+        return Ruling::Taken;
+    }
+    Ruling::Refused(POWER_UNFIT)
+}
+
+// "16 inertia out of range, then 17 power"
+fn run_ruling(run: Run) -> Ruling
+    ensures { λ r. ⌜ r ≡ runRuling run ⌝ }
+{
+    let inertia = inertia_ruling(run.inertia);
+    let power = power_ruling(run.power);
+    first_refusal(inertia, power)
+}
+
+fn service_ruling(x: Service) -> Ruling
+    ensures { λ r. ⌜ r ≡ serviceRuling x ⌝ }
+{
+    match x {
+        Service::Nothing => Ruling::Taken,
+        Service::NewClock(_) => Ruling::Taken,
+        Service::Outcome(_) => Ruling::Taken,
+        Service::Tried(_) => Ruling::Taken,
+        Service::Ran(run) => run_ruling(run),
+    }
+}
+
+fn service_judged(ruling: Ruling, bench: Bench, event: Event) -> Handled
+    ensures { λ r. ⌜ r ≡ serviceJudged ruling bench event ⌝ }
+{
+    let desk = bench.desk;
+    match ruling {
+        Ruling::Taken => plain_taken(desk, event),
+        Ruling::Refused(r) => refused(r, bench),
+    }
+}
+
+// An event that is no start, second or stop: of these a coast-down run alone can be unfit.
+fn service_taken(bench: Bench, event: Event, x: Service) -> Handled
+    ensures { λ r. ⌜ r ≡ serviceTaken bench event x ⌝ }
+{
+    let ruling = service_ruling(x);
+    service_judged(ruling, bench, event)
 }
 
 // 4 or 5, as the test's beginning tells.
@@ -243,9 +320,8 @@ fn stop_taken(bench: Bench, event: Event, cause: u8) -> Handled
 pub(crate) fn taken(bench: Bench, event: Event, carried: Carried) -> Handled
     ensures { λ r. ⌜ r ≡ taken bench event carried ⌝ }
 {
-    let desk = bench.desk;
     match carried {
-        Carried::Service(_) => plain_taken(desk, event),
+        Carried::Service(x) => service_taken(bench, event, x),
         Carried::Start(settings, saturation) => start_taken(bench, event, settings, saturation),
         Carried::Second(readings) => second_taken(bench, event, readings),
         Carried::Stop(cause) => stop_taken(bench, event, cause),

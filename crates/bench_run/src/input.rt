@@ -1,6 +1,8 @@
 // Events from standard input; 0 for what is past its end.
 use bench::Calibration;
 use bench::Event;
+use bench::Run;
+use bench::SpeedRange;
 use bench::Try;
 use reading::Reading;
 use reading::Readings;
@@ -27,6 +29,7 @@ pub(crate) fn next() -> Found {
         9 => Found::Event(start(clock)),
         10 => Found::Event(second(clock)),
         11 => Found::Event(stop(clock)),
+        12 => Found::Event(coast_down(clock)),
         _ => Found::End,
     }
 }
@@ -106,6 +109,31 @@ fn second(clock: u32) -> Event {
 fn stop(clock: u32) -> Event {
     let cause = byte();
     Event::Stop { clock, cause }
+}
+
+// Inertia, power, which run and the milliseconds.
+fn coast_down(clock: u32) -> Event {
+    let inertia = short();
+    let power = short();
+    let speeds = speed_range(byte());
+    let milliseconds = long();
+    Event::CoastDown {
+        clock,
+        run: Run {
+            inertia,
+            power,
+            speeds,
+            milliseconds,
+        },
+    }
+}
+
+// 1 the faster.
+fn speed_range(which: u8) -> SpeedRange {
+    if which == 1 {
+        return SpeedRange::Faster;
+    }
+    SpeedRange::Slower
 }
 
 fn read(a: u8, b: u8, c: u8, d: u8) -> Reading {

@@ -9,6 +9,10 @@ use borrow.Author.Tests.{le-leb, lt-leb, leb-true, leb-false}
 use lib.Dec.{leb, eqb}
 use Rattle.refusal.specs.Choice.{pick}
 use Rattle.loaded_test.specs.declared.Verdict.{Verdict}
+use Rattle.coast_down.specs.declared.SpeedRange.{SpeedRange}
+use Rattle.coast_down.specs.declared.SpeedRange.the-variants.{Faster, Slower}
+use Rattle.coast_down.specs.declared.Run.{Run}
+use Rattle.coast_down.specs.Passing.{runPassed}
 use Rattle.locks.specs.declared.Calibration.{Calibration as Outcome}
 use Rattle.locks.specs.declared.Calibration.the-variants.{Passed, Failed}
 use Rattle.locks.specs.declared.Try.{Try as Tried}
@@ -21,14 +25,15 @@ use Rattle.locks.specs.declared.Activity.{Activity}
 use Rattle.locks.specs.declared.Activity.the-variants.{Never, Last}
 use Rattle.locks.specs.declared.Service.{Service}
 use Rattle.locks.specs.declared.Service.the-variants as service
+use Rattle.locks.specs.declared.Rollers.{Rollers}
 use Rattle.locks.specs.declared.Session.{Session}
 use Rattle.locks.specs.declared.Security.{Security}
 use Rattle.locks.specs.declared.Locks.{Locks}
 use Rattle.locks.specs.declared.Event.{Event}
-use Rattle.locks.specs.Events.{kindOf, clockOf, serviceIn, calibrationWith, calibrationIn, tryWith, tryIn, passed, Calibrating}
+use Rattle.locks.specs.Events.{kindOf, clockOf, serviceIn, calibrationWith, calibrationIn, tryWith, tryIn, runWith, sameSpeeds, ofSpeeds, runAt, passed, Calibrating}
 use Rattle.locks.specs.Accepted.{Accepted, accepted, isKind, since, any, orElse, latestOf}
-use Rattle.locks.specs.Locks.{voiding, renews, notWarm, activeClock, overdue, inactive, expired, noneValid, latestCalibration, notCalibrated, noneGood, latestTry, notSignedIn, isWrong, rowEnds, rowEnd, wrongTries, wrongRow, passwordLock, authorityLock, withVerdict, verdictsIn, unsentIn, unsentLock, lockOf}
-use Rattle.locks.specs.State.{warmAfter, calibratedBy, calibratedWith, calibratedAfter, signedBy, signedWith, signedAfter, oneWrong, wrongAfter, freshLocks, activeAfter, securityAfter, unsentAfter, sessionAfter, locksAfter, verdictCounted, calibrationOld, idle, signInOver, lockNumber}
+use Rattle.locks.specs.Locks.{voiding, renews, notWarm, activeClock, overdue, inactive, expired, noneValid, latestCalibration, latestRun, nonePassed, notCoasted, notCalibrated, noneGood, latestTry, notSignedIn, isWrong, rowEnds, rowEnd, wrongTries, wrongRow, passwordLock, authorityLock, withVerdict, verdictsIn, unsentIn, unsentLock, lockOf}
+use Rattle.locks.specs.State.{warmAfter, calibratedBy, calibratedWith, calibratedAfter, noRuns, ranBy, ranWith, ranAfter, signedBy, signedWith, signedAfter, oneWrong, wrongAfter, freshLocks, activeAfter, securityAfter, unsentAfter, sessionAfter, locksAfter, verdictCounted, calibrationOld, idle, signInOver, lockNumber}
 
 unfoldable pub calibratedOf : Option Calibrating → Calibrated
 calibratedOf none = No
@@ -38,6 +43,14 @@ unfoldable pub signInOf : Option Tried → SignIn
 signInOf none = Out
 signInOf (some x) = signedBy x
 
+-- A run that passed.
+unfoldable pub coastedOf : Option Run → Bool
+coastedOf none = false
+coastedOf (some run) = runPassed run
+
+abbrev pub rollersOf : List Accepted → Rollers
+rollersOf l = record { faster = coastedOf (latestRun Faster l); slower = coastedOf (latestRun Slower l) }
+
 unfoldable pub activityOf : Option ℕ → Activity
 activityOf none = Never
 activityOf (some clock) = Last clock
@@ -46,6 +59,7 @@ abbrev pub sessionOf : List Accepted → Session
 sessionOf l = record {
   warm = any (isKind 3) (since voiding l);
   calibrated = calibratedOf (latestCalibration l);
+  rollers = rollersOf l;
   signed = signInOf (latestTry l);
 }
 
@@ -62,7 +76,7 @@ locksOf l = record {
 }
 
 pub fresh-of : locksOf [] ≡ freshLocks
-unfolding locksOf since any latestOf latestCalibration latestTry wrongTries wrongRow passwordLock authorityLock verdictsIn unsentIn calibratedOf signInOf activityOf
+unfolding locksOf since any latestOf latestCalibration latestRun latestTry wrongTries wrongRow passwordLock authorityLock verdictsIn unsentIn calibratedOf coastedOf signInOf activityOf
 fresh-of = refl
 
 -- What is read from a list since an event, with one accepted event more.
@@ -123,6 +137,35 @@ calibrated-with clock (service.NewClock new) o false = refl
 calibrated-with clock (service.Outcome Passed) o false = refl
 calibrated-with clock (service.Outcome Failed) o false = refl
 calibrated-with clock (service.Tried outcome) o false = refl
+calibrated-with clock (service.Ran run) o false = refl
+
+-- A run of one speed leaves the other's.
+ran-with :
+    (x : Service) (f s : Option Run) (b : Bool) →
+    _≡_ {A = Rollers}
+    (record {
+      faster = coastedOf (pick b none (orElse (ofSpeeds Faster (runWith x)) f));
+      slower = coastedOf (pick b none (orElse (ofSpeeds Slower (runWith x)) s));
+    })
+    (pick b noRuns (ranWith x (record { faster = coastedOf f; slower = coastedOf s })))
+unfolding orElse ofSpeeds coastedOf pick
+ran-with x f s true = refl
+ran-with service.Nothing f s false = refl
+ran-with (service.NewClock new) f s false = refl
+ran-with (service.Outcome outcome) f s false = refl
+ran-with (service.Tried outcome) f s false = refl
+ran-with (service.Ran run) f s false = go (run .speeds)
+  where
+    go :
+        (v : SpeedRange) →
+        _≡_ {A = Rollers}
+        (record {
+          faster = coastedOf (orElse (pick (sameSpeeds Faster v) (some run) none) f);
+          slower = coastedOf (orElse (pick (sameSpeeds Slower v) (some run) none) s);
+        })
+        (ranBy v (runPassed run) (record { faster = coastedOf f; slower = coastedOf s }))
+    go Faster = refl
+    go Slower = refl
 
 signed-with :
     (x : Service) (o : Option Tried) (b : Bool) →
@@ -133,6 +176,7 @@ signed-with service.Nothing o false = refl
 signed-with (service.NewClock new) o false = refl
 signed-with (service.Outcome outcome) o false = refl
 signed-with (service.Tried outcome) o false = refl
+signed-with (service.Ran run) o false = refl
 
 active-with :
     (clock : ℕ) (o : Option ℕ) (b : Bool) →
@@ -182,9 +226,18 @@ module _ (e : Event) (v : Option Verdict) (l : List Accepted) where
   a = accepted e v
 
   session-kept : sessionOf (a ∷ l) ≡ sessionAfter (sessionOf l) (kindOf e) (clockOf e) (serviceIn e)
-  unfolding latestCalibration latestTry warmAfter calibratedAfter signedAfter
+  unfolding latestCalibration latestRun latestTry warmAfter calibratedAfter ranAfter signedAfter
   session-kept =
-      rw (any-since (isKind 3), latest-since calibrationIn, latest-since tryIn, calibrated-with, signed-with)
+      rw (
+        any-since (isKind 3),
+        latest-since calibrationIn,
+        latest-since (runAt Faster),
+        latest-since (runAt Slower),
+        latest-since tryIn,
+        calibrated-with,
+        ran-with,
+        signed-with,
+      )
 
   active-kept : activityOf (latestOf activeClock (a ∷ l)) ≡ activeAfter (activityOf (latestOf activeClock l)) (kindOf e) (clockOf e)
   unfolding latestOf activeClock activeAfter
@@ -234,6 +287,11 @@ old-none validity now (some c) = go (c .outcome)
     go Passed = refl
     go Failed = refl
 
+not-coasted : (o : Option Run) → not (coastedOf o) ≡ nonePassed o
+unfolding coastedOf nonePassed
+not-coasted none = refl
+not-coasted (some run) = refl
+
 over-none : (now : ℕ) (o : Option Tried) → signInOver now (signInOf o) ≡ noneGood now o
 unfolding signInOf noneGood
 over-none now none = refl
@@ -248,9 +306,15 @@ idle-none now (some clock) = refl
 -- The bench's lock number is that of the accepted events.
 pub lock-number :
     (validity limit now : ℕ) (l : List Accepted) → lockNumber validity limit (locksOf l) now ≡ lockOf validity limit now l
-unfolding locksOf lockNumber lockOf notWarm inactive notCalibrated notSignedIn unsentLock
+unfolding locksOf lockNumber lockOf notWarm inactive notCalibrated notCoasted notSignedIn unsentLock
 lock-number validity limit now l =
-    rw (idle-none now (latestOf activeClock l), old-none validity now (latestCalibration l), over-none now (latestTry l))
+    rw (
+      idle-none now (latestOf activeClock l),
+      old-none validity now (latestCalibration l),
+      not-coasted (latestRun Faster l),
+      not-coasted (latestRun Slower l),
+      over-none now (latestTry l),
+    )
 
 -- Wrong tries are held at four.
 pub wrong-most : (l : List Accepted) → locksOf l .security .wrong ≤ 4

@@ -10,16 +10,20 @@ use lib.Dec.{ltb, leb, eqb}
 use borrow.Author.Tests.{leb-true, leb-false, le-leb, lt-leb, ltb-false, le-ltb, eqb-true, eqb-false, eq-eqb, ne-eqb, not-true}
 use Rattle.refusal.specs.Choice.{pick}
 use Rattle.refusal.proofs.Exactly.{ltb-exactly, eqb-exactly, and-exactly, or-exactly, not-exactly}
+use Rattle.coast_down.specs.declared.SpeedRange.{SpeedRange}
+use Rattle.coast_down.specs.declared.SpeedRange.the-variants.{Faster, Slower}
+use Rattle.coast_down.specs.declared.Run.{Run}
+use Rattle.coast_down.specs.Passing.{runPassed}
 use Rattle.locks.specs.declared.Calibration.{Calibration as Outcome}
 use Rattle.locks.specs.declared.Calibration.the-variants.{Passed, Failed}
 use Rattle.locks.specs.declared.Try.{Try as Tried}
 use Rattle.locks.specs.declared.Try.the-variants.{Good, Wrong}
 use Rattle.locks.specs.declared.Event.{Event}
-use Rattle.locks.specs.declared.Event.the-variants.{PowerOn, ClockSetting, WarmUp, Calibration, Try, AuthorityLock, AuthorityUnlock, Upload, Start, Second, Stop}
-use Rattle.locks.specs.Events.{kindOf, clockOf, serviceIn, calibrationIn, tryIn, Calibrating}
+use Rattle.locks.specs.declared.Event.the-variants.{PowerOn, ClockSetting, WarmUp, Calibration, Try, AuthorityLock, AuthorityUnlock, Upload, Start, Second, Stop, CoastDown}
+use Rattle.locks.specs.Events.{kindOf, clockOf, serviceIn, calibrationIn, tryIn, runIn, sameSpeeds, ofSpeeds, runAt, Calibrating}
 use Rattle.locks.specs.Accepted.{Accepted, isKind, since, any, orElse, latestOf}
-use Rattle.locks.specs.Locks.{voids, voiding, renews, notWarm, activeClock, overdue, inactive, expired, noneValid, latestCalibration, notCalibrated, noneGood, latestTry, notSignedIn, isWrong, endsRow, rowEnd, wrongTries, wrongRow, passwordLock, authorityLock, verdictsIn, unsentIn, unsentLock}
-use Rattle.locks.specs.Plain.{IsKind, Voids, NoneIs, Has, NotWarm, Active, ActiveBefore, Inactive, PassedWithin, NotCalibrated, GoodWithin, NotSignedIn, WrongTry, GoodTry, Unlocks, EndsRow, WrongInRow, PasswordLocked, AuthorityLocked, Uploads, Unsent}
+use Rattle.locks.specs.Locks.{voids, voiding, renews, notWarm, activeClock, overdue, inactive, expired, noneValid, latestCalibration, latestRun, nonePassed, notCoasted, notCalibrated, noneGood, latestTry, notSignedIn, isWrong, endsRow, rowEnd, wrongTries, wrongRow, passwordLock, authorityLock, verdictsIn, unsentIn, unsentLock}
+use Rattle.locks.specs.Plain.{IsKind, Voids, NoneIs, Has, NotWarm, Active, ActiveBefore, Inactive, PassedWithin, RunOf, PassedRun, NoneCalibrated, NotCoasted, NotCalibrated, GoodWithin, NotSignedIn, WrongTry, GoodTry, Unlocks, EndsRow, WrongInRow, PasswordLocked, AuthorityLocked, Uploads, Unsent}
 use Rattle.locks.specs.Claims.{LockClaims}
 use Rattle.locks.proofs.Kept.{any-since, latest-since, wrong-since}
 use Rattle.locks.proofs.Found.{Found, found-here, found-later, found-exactly}
@@ -94,10 +98,11 @@ activity now l =
     go clock o true false h = h
     go clock o false c h = refl
 
--- An event by what it has to do with calibrations and tries.
+-- An event by what it has to do with calibrations, tries and coast-down runs.
 pub record Other (e : Event) : Type 0 where
   pub noCalibration : calibrationIn e ≡ none
   pub noTry : tryIn e ≡ none
+  pub noRun : runIn e ≡ none
   pub notWrong : isWrong (serviceIn e) ≡ false
   pub endsNone : endsRow (serviceIn e) ≡ false
   pub notFour : eqb (kindOf e) 4 ≡ false
@@ -106,32 +111,35 @@ pub record Other (e : Event) : Type 0 where
 data View : Event → Type 0 where
   calibrates : (clock : ℕ) (outcome : Outcome) → View (Calibration clock outcome)
   tries : (clock : ℕ) (outcome : Tried) → View (Try clock outcome)
+  coasts : (clock : ℕ) (run : Run) → View (CoastDown clock run)
   other : (e : Event) → Other e → View e
 
 plain :
     (e : Event) →
     calibrationIn e ≡ none →
     tryIn e ≡ none →
+    runIn e ≡ none →
     isWrong (serviceIn e) ≡ false →
     endsRow (serviceIn e) ≡ false →
     eqb (kindOf e) 4 ≡ false →
     eqb (kindOf e) 5 ≡ false →
     View e
-plain e a b c d f g =
-    other e (record { noCalibration = a; noTry = b; notWrong = c; endsNone = d; notFour = f; notFive = g })
+plain e a b r c d f g =
+    other e (record { noCalibration = a; noTry = b; noRun = r; notWrong = c; endsNone = d; notFour = f; notFive = g })
 
 view : (e : Event) → View e
-view (PowerOn clock) = plain (PowerOn clock) refl refl refl refl refl refl
-view (ClockSetting clock new) = plain (ClockSetting clock new) refl refl refl refl refl refl
-view (WarmUp clock) = plain (WarmUp clock) refl refl refl refl refl refl
+view (PowerOn clock) = plain (PowerOn clock) refl refl refl refl refl refl refl
+view (ClockSetting clock new) = plain (ClockSetting clock new) refl refl refl refl refl refl refl
+view (WarmUp clock) = plain (WarmUp clock) refl refl refl refl refl refl refl
 view (Calibration clock outcome) = calibrates clock outcome
 view (Try clock outcome) = tries clock outcome
-view (AuthorityLock clock) = plain (AuthorityLock clock) refl refl refl refl refl refl
-view (AuthorityUnlock clock) = plain (AuthorityUnlock clock) refl refl refl refl refl refl
-view (Upload clock) = plain (Upload clock) refl refl refl refl refl refl
-view (Start clock settings p) = plain (Start clock settings p) refl refl refl refl refl refl
-view (Second clock readings) = plain (Second clock readings) refl refl refl refl refl refl
-view (Stop clock cause) = plain (Stop clock cause) refl refl refl refl refl refl
+view (AuthorityLock clock) = plain (AuthorityLock clock) refl refl refl refl refl refl refl
+view (AuthorityUnlock clock) = plain (AuthorityUnlock clock) refl refl refl refl refl refl refl
+view (Upload clock) = plain (Upload clock) refl refl refl refl refl refl refl
+view (Start clock settings p) = plain (Start clock settings p) refl refl refl refl refl refl refl
+view (Second clock readings) = plain (Second clock readings) refl refl refl refl refl refl refl
+view (Stop clock cause) = plain (Stop clock cause) refl refl refl refl refl refl refl
+view (CoastDown clock run) = coasts clock run
 
 -- A lock that stands exactly where nothing lifts it.
 lifted-exactly : {P : Type 0} (x : Bool) → (not x ≡ true) ↔ P → (x ≡ true) ↔ (P → ⊥)
@@ -142,7 +150,7 @@ not-and-none : (v : Bool) → not v && false ≡ false
 not-and-none true = refl
 not-and-none false = refl
 
--- Locks 3 and 4: the latest of a kind that is not void, where there is one, lifts the lock or not. Only events of that kind carry one, and
+-- Locks 3 and 4: the latest of a sort that is not void, where there is one, lifts the lock or not. Only events of that sort carry one, and
 -- none of them voids.
 abbrev Kinded : {A : Type 0} → Bool → Bool → Option A → Type 0
 Kinded is void none = is ≡ false
@@ -173,32 +181,33 @@ module _ {A : Type 0} (lifts : Option A → Bool) (never : lifts none ≡ false)
   none-yet f = never
 
   latest-exactly :
-      (n : ℕ) (f : Event → Option A) (P : Accepted → Type 0) →
-      ((a : Accepted) → Kinded (isKind n a) (voiding a) (f (a .event))) →
+      (is : Accepted → Bool) (Is : Accepted → Type 0) (f : Event → Option A) (P : Accepted → Type 0) →
+      ((a : Accepted) → (is a ≡ true) ↔ Is a) →
+      ((a : Accepted) → Kinded (is a) (voiding a) (f (a .event))) →
       ((a : Accepted) → (not (voiding a) && lifts (f (a .event)) ≡ true) ↔ P a) →
       (l : List Accepted) →
-      (lifts (latestOf f (since voiding l)) ≡ true) ↔ Has P (λ a. IsKind n a ⊎ Voids a) l
-  latest-exactly n f P kinded exactly l =
+      (lifts (latestOf f (since voiding l)) ≡ true) ↔ Has P (λ a. Is a ⊎ Voids a) l
+  latest-exactly is Is f P sort kinded exactly l =
       has-exactly _ l
-      (found-exactly P (λ a. IsKind n a ⊎ Voids a) All
+      (found-exactly P (λ a. Is a ⊎ Voids a) All
       (λ l. lifts (latestOf f (since voiding l)))
       (λ _. true)
       (λ a. not (voiding a) && lifts (f (a .event)))
-      (λ a. isKind n a || voiding a)
+      (λ a. is a || voiding a)
       (none-yet f) step exactly
-      (λ a. or-exactly (isKind n a) (voiding a) (is-kind n a) (is-voiding a))
+      (λ a. or-exactly (is a) (voiding a) (sort a) (is-voiding a))
       always l)
     where
       step :
           (a : Accepted) (l : List Accepted) →
           lifts (latestOf f (since voiding (a ∷ l)))
           ≡ (not (voiding a) && lifts (f (a .event))) && true
-          || not (isKind n a || voiding a) && lifts (latestOf f (since voiding l))
+          || not (is a || voiding a) && lifts (latestOf f (since voiding l))
       step a l =
           ap lifts (latest-since f voiding a l) ∙
-          latest-step (isKind n a) (voiding a) (f (a .event)) (latestOf f (since voiding l)) (kinded a)
+          latest-step (is a) (voiding a) (f (a .event)) (latestOf f (since voiding l)) (kinded a)
 
--- Lock 3.
+-- Lock 3, as to the calibration.
 module _ (validity now : ℕ) where
   valid : Option Calibrating → Bool
   valid o = not (noneValid validity now o)
@@ -213,6 +222,7 @@ module _ (validity now : ℕ) where
       go : (e : Event) → View e → Kinded (eqb (kindOf e) 4) (voids (kindOf e)) (calibrationIn e)
       go (Calibration _ _) (calibrates clock outcome) = (refl, refl)
       go (Try _ _) (tries clock outcome) = refl
+      go (CoastDown _ _) (coasts clock run) = refl
       go e (other _ x) = rw (x .noCalibration) (x .notFour)
 
   passed-exactly :
@@ -230,17 +240,112 @@ module _ (validity now : ℕ) where
           record { clock = clock; passed = s; valid = ltb-false (clock + validity) now (not-true _ h) }
       found (Calibration _ _) s (calibrates clock Failed) h = absurd (false≢true h)
       found (Try _ _) s (tries clock outcome) h = absurd (false≢true h)
+      found (CoastDown _ _) s (coasts clock run) h = absurd (false≢true h)
       found e s (other _ x) h =
           absurd (false≢true (sym (not-and-none (voids (kindOf e))) ∙ sym (ap (λ o. not (voids (kindOf e)) && valid o) (x .noCalibration)) ∙ h))
 
       back : PassedWithin validity now a → not (voids (kindOf (a .event))) && valid (calibrationIn (a .event)) ≡ true
       back x = rw (x .passed, le-ltb (x .clock + validity) now (x .valid))
 
-  calibration : (l : List Accepted) → (notCalibrated validity now l ≡ true) ↔ NotCalibrated validity now l
-  unfolding notCalibrated valid latestCalibration
+  calibration : (l : List Accepted) → (noneValid validity now (latestCalibration l) ≡ true) ↔ NoneCalibrated validity now l
+  unfolding valid latestCalibration
   calibration l =
       lifted-exactly _
-      (latest-exactly valid none-valid 4 calibrationIn (PassedWithin validity now) calibration-kinded passed-exactly l)
+      (latest-exactly valid none-valid (isKind 4) (IsKind 4) calibrationIn (PassedWithin validity now) (is-kind 4) calibration-kinded passed-exactly l)
+
+-- Lock 3, as to the rollers.
+module _ (speeds : SpeedRange) where
+  abbrev isRun : Option Run → Bool
+  isRun none = false
+  isRun (some run) = true
+
+  ran : Option Run → Bool
+  ran o = not (nonePassed o)
+
+  none-ran : ran none ≡ false
+  unfolding ran nonePassed
+  none-ran = refl
+
+  same-speeds : (v : SpeedRange) → (sameSpeeds speeds v ≡ true) ↔ (v ≡ speeds)
+  same-speeds v = go speeds v
+    where
+      go : (u w : SpeedRange) → (sameSpeeds u w ≡ true) ↔ (w ≡ u)
+      go Faster Faster = ((λ _. refl), (λ _. refl))
+      go Faster Slower = ((λ h. absurd (false≢true h)), (λ h. cc))
+      go Slower Faster = ((λ h. absurd (false≢true h)), (λ h. cc))
+      go Slower Slower = ((λ _. refl), (λ _. refl))
+
+  of-run : (a : Accepted) → (isRun (runAt speeds (a .event)) ≡ true) ↔ RunOf speeds a
+  unfolding ofSpeeds pick
+  of-run a = ((λ h. found (a .event) refl (view (a .event)) h), back)
+    where
+      picked : (run : Run) (b : Bool) → isRun (pick b (some run) none) ≡ b
+      picked run true = refl
+      picked run false = refl
+
+      found : (e : Event) → a .event ≡ e → View e → isRun (runAt speeds e) ≡ true → RunOf speeds a
+      found (Calibration _ _) s (calibrates clock outcome) h = absurd (false≢true h)
+      found (Try _ _) s (tries clock outcome) h = absurd (false≢true h)
+      found (CoastDown _ _) s (coasts clock run) h =
+          record { clock = clock; run = run; ran = s; same = same-speeds (run .speeds) .0 (sym (picked run (sameSpeeds speeds (run .speeds))) ∙ h) }
+      found e s (other _ x) h = absurd (false≢true (sym (ap (λ o. isRun (ofSpeeds speeds o)) (x .noRun)) ∙ h))
+
+      back : RunOf speeds a → isRun (runAt speeds (a .event)) ≡ true
+      back x = rw (x .ran, same-speeds (x .run .speeds) .1 (x .same))
+
+  run-kinded : (a : Accepted) → Kinded (isRun (runAt speeds (a .event))) (voiding a) (runAt speeds (a .event))
+  unfolding ofSpeeds pick
+  run-kinded a = go (a .event) (view (a .event))
+    where
+      picked : (run : Run) (b : Bool) → Kinded (isRun (pick b (some run) none)) false (pick b (some run) none)
+      picked run true = (refl, refl)
+      picked run false = refl
+
+      go : (e : Event) → View e → Kinded (isRun (runAt speeds e)) (voids (kindOf e)) (runAt speeds e)
+      go (Calibration _ _) (calibrates clock outcome) = refl
+      go (Try _ _) (tries clock outcome) = refl
+      go (CoastDown _ _) (coasts clock run) = picked run (sameSpeeds speeds (run .speeds))
+      go e (other _ x) = rw (x .noRun) refl
+
+  ran-exactly : (a : Accepted) → (not (voiding a) && ran (runAt speeds (a .event)) ≡ true) ↔ PassedRun speeds a
+  unfolding ran nonePassed ofSpeeds pick
+  ran-exactly a = ((λ h. found (a .event) refl (view (a .event)) h), back)
+    where
+      both : (run : Run) (b : Bool) → ran (pick b (some run) none) ≡ true → (b ≡ true) × (runPassed run ≡ true)
+      both run true h = (refl, twice (runPassed run) h)
+        where
+          twice : (c : Bool) → not (not c) ≡ true → c ≡ true
+          twice true h = refl
+          twice false h = h
+      both run false h = absurd (false≢true h)
+
+      found :
+          (e : Event) →
+          a .event ≡ e →
+          View e →
+          not (voids (kindOf e)) && ran (runAt speeds e) ≡ true →
+          PassedRun speeds a
+      found (Calibration _ _) s (calibrates clock outcome) h = absurd (false≢true h)
+      found (Try _ _) s (tries clock outcome) h = absurd (false≢true h)
+      found (CoastDown _ _) s (coasts clock run) h =
+          let b = both run (sameSpeeds speeds (run .speeds)) h in
+          record { of = record { clock = clock; run = run; ran = s; same = same-speeds (run .speeds) .0 (b .0) }; passed = b .1 }
+      found e s (other _ x) h =
+          absurd (false≢true (sym (not-and-none (voids (kindOf e))) ∙ sym (ap (λ o. not (voids (kindOf e)) && ran (ofSpeeds speeds o)) (x .noRun)) ∙ h))
+
+      back : PassedRun speeds a → not (voids (kindOf (a .event))) && ran (runAt speeds (a .event)) ≡ true
+      back x = rw (x .of .ran, same-speeds (x .of .run .speeds) .1 (x .of .same), x .passed)
+
+  coasted : (l : List Accepted) → (nonePassed (latestRun speeds l) ≡ true) ↔ NotCoasted speeds l
+  unfolding ran latestRun
+  coasted l =
+      lifted-exactly _
+      (latest-exactly ran none-ran (λ a. isRun (runAt speeds (a .event))) (RunOf speeds) (runAt speeds) (PassedRun speeds) of-run run-kinded ran-exactly l)
+
+-- Lock 3.
+calibrated : (validity now : ℕ) (l : List Accepted) → (notCalibrated validity now l ≡ true) ↔ NotCalibrated validity now l
+unfolding notCalibrated notCoasted
+calibrated validity now l = or-exactly _ _ (calibration validity now l) (or-exactly _ _ (coasted Faster l) (coasted Slower l))
 
 -- Lock 4.
 module _ (now : ℕ) where
@@ -257,6 +362,7 @@ module _ (now : ℕ) where
       go : (e : Event) → View e → Kinded (eqb (kindOf e) 5) (voids (kindOf e)) (tryIn e)
       go (Calibration _ _) (calibrates clock outcome) = refl
       go (Try _ _) (tries clock outcome) = (refl, refl)
+      go (CoastDown _ _) (coasts clock run) = refl
       go e (other _ x) = rw (x .noTry) (x .notFive)
 
   good-exactly : (a : Accepted) → (not (voiding a) && good (tryIn (a .event)) ≡ true) ↔ GoodWithin now a
@@ -273,6 +379,7 @@ module _ (now : ℕ) where
       found (Try _ _) s (tries clock (Good expiry)) h =
           record { clock = clock; expiry = expiry; good = s; valid = ltb-false expiry now (not-true _ h) }
       found (Try _ _) s (tries clock Wrong) h = absurd (false≢true h)
+      found (CoastDown _ _) s (coasts clock run) h = absurd (false≢true h)
       found e s (other _ x) h =
           absurd (false≢true (sym (not-and-none (voids (kindOf e))) ∙ sym (ap (λ o. not (voids (kindOf e)) && good o) (x .noTry)) ∙ h))
 
@@ -281,7 +388,7 @@ module _ (now : ℕ) where
 
   sign-in : (l : List Accepted) → (notSignedIn now l ≡ true) ↔ NotSignedIn now l
   unfolding notSignedIn good latestTry
-  sign-in l = lifted-exactly _ (latest-exactly good none-good 5 tryIn (GoodWithin now) try-kinded good-exactly l)
+  sign-in l = lifted-exactly _ (latest-exactly good none-good (isKind 5) (IsKind 5) tryIn (GoodWithin now) (is-kind 5) try-kinded good-exactly l)
 
 -- Lock 5.
 isWrongTry : Accepted → Bool
@@ -300,6 +407,7 @@ wrong-exactly a = ((λ h. found (a .event) refl (view (a .event)) h), back)
     found (Calibration _ _) s (calibrates clock outcome) h = absurd (false≢true h)
     found (Try _ _) s (tries clock (Good expiry)) h = absurd (false≢true h)
     found (Try _ _) s (tries clock Wrong) h = record { clock = clock; wrong = s }
+    found (CoastDown _ _) s (coasts clock run) h = absurd (false≢true h)
     found e s (other _ x) h =
         absurd (false≢true (sym (not-and-none (eqb (kindOf e) 7 || endsRow (serviceIn e))) ∙
         sym (ap (λ b. not (eqb (kindOf e) 7 || endsRow (serviceIn e)) && b) (x .notWrong)) ∙ h))
@@ -314,6 +422,7 @@ good-try a = ((λ h. found (a .event) refl (view (a .event)) h), back)
     found (Calibration _ _) s (calibrates clock outcome) h = absurd (false≢true h)
     found (Try _ _) s (tries clock (Good expiry)) h = record { clock = clock; expiry = expiry; good = s }
     found (Try _ _) s (tries clock Wrong) h = absurd (false≢true h)
+    found (CoastDown _ _) s (coasts clock run) h = absurd (false≢true h)
     found e s (other _ x) h = absurd (false≢true (sym (x .endsNone) ∙ h))
 
     back : GoodTry a → endsRow (serviceIn (a .event)) ≡ true
@@ -465,7 +574,7 @@ pub stands-exactly : LockClaims
 stands-exactly validity limit now l = record {
   warmUp = warm-up l;
   activity = activity now l;
-  calibration = calibration validity now l;
+  calibration = calibrated validity now l;
   signIn = sign-in now l;
   password = password l;
   authority = authority l;

@@ -1,14 +1,18 @@
--- The eleven kinds of event (document 01, "Locks of the bench"), and what each carries.
+-- The twelve kinds of event (document 01, "Locks of the bench"; document 02, A.2), and what each carries.
 use Prim.Native.Nat.{ℕ}
 use mathlib.Core.Bool.{Bool, true, false}
 use mathlib.Core.Option.{Option, none, some}
 use Rattle.reading.specs.declared.Readings.{Readings}
 use Rattle.vehicle.specs.declared.Settings.{Settings}
+use Rattle.refusal.specs.Choice.{pick}
+use Rattle.coast_down.specs.declared.SpeedRange.{SpeedRange}
+use Rattle.coast_down.specs.declared.SpeedRange.the-variants.{Faster, Slower}
+use Rattle.coast_down.specs.declared.Run.{Run}
 use Rattle.locks.specs.declared.Calibration.{Calibration as Outcome}
 use Rattle.locks.specs.declared.Calibration.the-variants.{Passed, Failed}
 use Rattle.locks.specs.declared.Try.{Try as Tried}
 use Rattle.locks.specs.declared.Event.{Event}
-use Rattle.locks.specs.declared.Event.the-variants.{PowerOn, ClockSetting, WarmUp, Calibration, Try, AuthorityLock, AuthorityUnlock, Upload, Start, Second, Stop}
+use Rattle.locks.specs.declared.Event.the-variants.{PowerOn, ClockSetting, WarmUp, Calibration, Try, AuthorityLock, AuthorityUnlock, Upload, Start, Second, Stop, CoastDown}
 use Rattle.locks.specs.declared.Service.{Service}
 use Rattle.locks.specs.declared.Service.the-variants as service
 use Rattle.locks.specs.declared.Carried.{Carried}
@@ -21,7 +25,7 @@ described kind clock x = record { kind = kind; clock = clock; carried = x }
 
 -- "Events carry a clock (32 bits, seconds). Kinds: 1 power-on; 2 clock setting (new clock); 3 warm-up finished; 4 calibration (passed
 -- or not); 5 try (good with its expiry, or wrong); 6 authority lock; 7 authority unlock; 8 upload; 9 start (the seven settings, then
--- p ..); 10 second (codes 1 to 8); 11 stop (cause)."
+-- p ..); 10 second (codes 1 to 8); 11 stop (cause)." "A run is event kind 12: inertia, power .., which run .., milliseconds".
 abbrev pub contentsOf : Event → Contents
 contentsOf (PowerOn clock) = described 1 clock (carried.Service service.Nothing)
 contentsOf (ClockSetting clock new) = described 2 clock (carried.Service (service.NewClock new))
@@ -34,6 +38,7 @@ contentsOf (Upload clock) = described 8 clock (carried.Service service.Nothing)
 contentsOf (Start clock settings p) = described 9 clock (carried.Start settings p)
 contentsOf (Second clock readings) = described 10 clock (carried.Second readings)
 contentsOf (Stop clock cause) = described 11 clock (carried.Stop cause)
+contentsOf (CoastDown clock run) = described 12 clock (carried.Service (service.Ran run))
 
 -- The number of its kind.
 abbrev pub kindOf : Event → ℕ
@@ -64,6 +69,7 @@ clockWith service.Nothing clock = clock
 clockWith (service.NewClock new) clock = new
 clockWith (service.Outcome outcome) clock = clock
 clockWith (service.Tried outcome) clock = clock
+clockWith (service.Ran run) clock = clock
 
 -- "its clock, or a clock setting's new one, becomes the last"
 abbrev pub clockAfter : Event → ℕ
@@ -85,6 +91,7 @@ calibrationWith clock service.Nothing = none
 calibrationWith clock (service.NewClock new) = none
 calibrationWith clock (service.Outcome outcome) = some (record { clock = clock; outcome = outcome })
 calibrationWith clock (service.Tried outcome) = none
+calibrationWith clock (service.Ran run) = none
 
 -- The calibration in an event, with its clock.
 abbrev pub calibrationIn : Event → Option Calibrating
@@ -96,10 +103,39 @@ tryWith service.Nothing = none
 tryWith (service.NewClock new) = none
 tryWith (service.Outcome outcome) = none
 tryWith (service.Tried outcome) = some outcome
+tryWith (service.Ran run) = none
 
 -- The try in an event.
 abbrev pub tryIn : Event → Option Tried
 tryIn e = tryWith (serviceIn e)
+
+-- A coast-down run.
+abbrev pub runWith : Service → Option Run
+runWith service.Nothing = none
+runWith (service.NewClock new) = none
+runWith (service.Outcome outcome) = none
+runWith (service.Tried outcome) = none
+runWith (service.Ran run) = some run
+
+-- The coast-down run in an event.
+abbrev pub runIn : Event → Option Run
+runIn e = runWith (serviceIn e)
+
+-- Both are the faster, or both the slower.
+abbrev pub sameSpeeds : SpeedRange → SpeedRange → Bool
+sameSpeeds Faster Faster = true
+sameSpeeds Faster Slower = false
+sameSpeeds Slower Faster = false
+sameSpeeds Slower Slower = true
+
+-- A run, if it is of these speeds.
+unfoldable pub ofSpeeds : SpeedRange → Option Run → Option Run
+ofSpeeds speeds none = none
+ofSpeeds speeds (some run) = pick (sameSpeeds speeds (run .speeds)) (some run) none
+
+-- The coast-down run of these speeds in an event.
+abbrev pub runAt : SpeedRange → Event → Option Run
+runAt speeds e = ofSpeeds speeds (runIn e)
 
 -- "start (the seven settings, then p ..)"
 pub record Starting : Type 0 where

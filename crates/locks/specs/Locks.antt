@@ -1,5 +1,5 @@
 -- The seven locks, read from the accepted events, newest first, the start's clock, V and U. Document 01: "A start is locked by the
--- first standing one". specs/Plain.antt says the same of each in plain propositions.
+-- first standing one"; lock 3 with document 02, A.2. specs/Plain.antt says the same of each in plain propositions.
 use Prim.Native.Nat.{ℕ, suc, _+_}
 use mathlib.Core.Bool.{Bool, true, false, not, _&&_, _||_}
 use mathlib.Core.List.{List, [], _∷_}
@@ -7,15 +7,19 @@ use mathlib.Core.Option.{Option, none, some}
 use lib.Dec.{ltb, leb, eqb}
 use Rattle.refusal.specs.Choice.{pick}
 use Rattle.loaded_test.specs.declared.Verdict.{Verdict}
+use Rattle.coast_down.specs.declared.SpeedRange.{SpeedRange}
+use Rattle.coast_down.specs.declared.SpeedRange.the-variants.{Faster, Slower}
+use Rattle.coast_down.specs.declared.Run.{Run}
+use Rattle.coast_down.specs.Passing.{runPassed}
 use Rattle.locks.specs.declared.Calibration.{Calibration}
 use Rattle.locks.specs.declared.Calibration.the-variants.{Passed, Failed}
 use Rattle.locks.specs.declared.Try.{Try}
 use Rattle.locks.specs.declared.Try.the-variants.{Good, Wrong}
 use Rattle.locks.specs.declared.Service.{Service}
-use Rattle.locks.specs.declared.Service.the-variants.{Nothing, NewClock, Outcome, Tried}
+use Rattle.locks.specs.declared.Service.the-variants.{Nothing, NewClock, Outcome, Tried, Ran}
 use Rattle.locks.specs.declared.Event.{Event}
 use Rattle.locks.specs.declared.StandingLocks.{StandingLocks}
-use Rattle.locks.specs.Events.{kindOf, clockOf, serviceIn, calibrationIn, tryIn, Calibrating}
+use Rattle.locks.specs.Events.{kindOf, clockOf, serviceIn, calibrationIn, tryIn, runAt, Calibrating}
 use Rattle.locks.specs.Accepted.{Accepted, isKind, since, any, latestOf}
 
 -- "Power-on and clock setting void warm-up, calibration and sign-in (as none)".
@@ -61,9 +65,22 @@ noneValid validity now (some c) = expired validity now (c .clock) (c .outcome)
 unfoldable pub latestCalibration : List Accepted → Option Calibrating
 latestCalibration l = latestOf calibrationIn (since voiding l)
 
--- Lock 3.
+-- The latest coast-down run of these speeds that is not void.
+unfoldable pub latestRun : SpeedRange → List Accepted → Option Run
+latestRun speeds l = latestOf (runAt speeds) (since voiding l)
+
+-- No run, or it did not pass.
+unfoldable pub nonePassed : Option Run → Bool
+nonePassed none = true
+nonePassed (some run) = not (runPassed run)
+
+-- "Lock 3 now also holds unless the latest run of each speed passed and came after the latest power-on or clock setting"
+unfoldable pub notCoasted : List Accepted → Bool
+notCoasted l = nonePassed (latestRun Faster l) || nonePassed (latestRun Slower l)
+
+-- Lock 3: "V still counts from the analyser's calibration".
 unfoldable pub notCalibrated : ℕ → ℕ → List Accepted → Bool
-notCalibrated validity now l = noneValid validity now (latestCalibration l)
+notCalibrated validity now l = noneValid validity now (latestCalibration l) || notCoasted l
 
 -- "4 no try, latest not good, or its expiry before now"
 unfoldable pub noneGood : ℕ → Option Try → Bool
@@ -86,6 +103,7 @@ isWrong (NewClock new) = false
 isWrong (Outcome outcome) = false
 isWrong (Tried (Good expiry)) = false
 isWrong (Tried Wrong) = true
+isWrong (Ran run) = false
 
 -- "a good try ends a row"
 abbrev pub endsRow : Service → Bool
@@ -94,6 +112,7 @@ endsRow (NewClock new) = false
 endsRow (Outcome outcome) = false
 endsRow (Tried (Good expiry)) = true
 endsRow (Tried Wrong) = false
+endsRow (Ran run) = false
 
 -- "Authority unlock clears the wrong-try row, password lock and authority lock."
 abbrev pub unlocks : ℕ → Bool

@@ -1,11 +1,16 @@
 -- When each of the seven locks stands, in plain propositions over the accepted events, newest first, the start's clock (now), V and U.
 use Prim.Native.Nat.{ℕ, zero, suc, _+_, _≤_, _<_}
+use mathlib.Core.Bool.{true}
 use mathlib.Core.Path.{_≡_}
 use mathlib.Core.List.{List, [], _∷_, _++_}
 use mathlib.Core.Logic.{_⊎_}
+use Rattle.coast_down.specs.declared.SpeedRange.{SpeedRange}
+use Rattle.coast_down.specs.declared.SpeedRange.the-variants.{Faster, Slower}
+use Rattle.coast_down.specs.declared.Run.{Run}
+use Rattle.coast_down.specs.Passing.{runPassed}
 use Rattle.locks.specs.declared.Calibration.the-variants.{Passed}
 use Rattle.locks.specs.declared.Try.the-variants.{Good, Wrong}
-use Rattle.locks.specs.declared.Event.the-variants.{Calibration, Try}
+use Rattle.locks.specs.declared.Event.the-variants.{Calibration, Try, CoastDown}
 use Rattle.locks.specs.Events.{kindOf, clockOf}
 use Rattle.locks.specs.Accepted.{Accepted}
 use Rattle.locks.specs.Locks.{verdictsIn}
@@ -58,9 +63,33 @@ pub record PassedWithin (validity now : ℕ) (a : Accepted) : Type 0 where
 abbrev pub CalibratesOrVoids : Accepted → Type 0
 CalibratesOrVoids a = IsKind 4 a ⊎ Voids a
 
--- 3: no passed calibration with no calibration, power-on or clock setting after it and now ≤ its clock + V.
+-- A coast-down run of these speeds.
+pub record RunOf (speeds : SpeedRange) (a : Accepted) : Type 0 where
+  pub clock : ℕ
+  pub run : Run
+  pub ran : a .event ≡ CoastDown clock run
+  pub same : run .speeds ≡ speeds
+
+-- One that passed.
+pub record PassedRun (speeds : SpeedRange) (a : Accepted) : Type 0 where
+  pub of : RunOf speeds a
+  pub passed : runPassed (of .run) ≡ true
+
+-- A run of these speeds, or what voids one.
+abbrev pub RunsOrVoids : SpeedRange → Accepted → Type 0
+RunsOrVoids speeds a = RunOf speeds a ⊎ Voids a
+
+-- No passed run of these speeds with no run of the same speeds, power-on or clock setting after it.
+abbrev pub NotCoasted : SpeedRange → List Accepted → Type 0
+NotCoasted speeds l = Has (PassedRun speeds) (RunsOrVoids speeds) l → ⊥
+
+-- No passed calibration with no calibration, power-on or clock setting after it and now ≤ its clock + V.
+abbrev pub NoneCalibrated : ℕ → ℕ → List Accepted → Type 0
+NoneCalibrated validity now l = Has (PassedWithin validity now) CalibratesOrVoids l → ⊥
+
+-- 3: no such calibration, no such faster run, or no such slower run.
 abbrev pub NotCalibrated : ℕ → ℕ → List Accepted → Type 0
-NotCalibrated validity now l = Has (PassedWithin validity now) CalibratesOrVoids l → ⊥
+NotCalibrated validity now l = NoneCalibrated validity now l ⊎ (NotCoasted Faster l ⊎ NotCoasted Slower l)
 
 -- A good try, now at most its expiry.
 pub record GoodWithin (now : ℕ) (a : Accepted) : Type 0 where

@@ -3,6 +3,9 @@ use Prim.Native.Nat.{ℕ, _+_, min}
 use mathlib.Core.Bool.{Bool, true, false, not, _||_}
 use lib.Dec.{ltb, leb, eqb}
 use Rattle.refusal.specs.Choice.{pick}
+use Rattle.coast_down.specs.declared.SpeedRange.{SpeedRange}
+use Rattle.coast_down.specs.declared.SpeedRange.the-variants.{Faster, Slower}
+use Rattle.coast_down.specs.Passing.{runPassed}
 use Rattle.locks.specs.declared.Try.{Try as Tried}
 use Rattle.locks.specs.declared.Try.the-variants.{Good, Wrong}
 use Rattle.locks.specs.declared.Calibrated.{Calibrated}
@@ -13,6 +16,7 @@ use Rattle.locks.specs.declared.Activity.{Activity}
 use Rattle.locks.specs.declared.Activity.the-variants.{Never, Last}
 use Rattle.locks.specs.declared.Service.{Service}
 use Rattle.locks.specs.declared.Service.the-variants as service
+use Rattle.locks.specs.declared.Rollers.{Rollers}
 use Rattle.locks.specs.declared.Session.{Session}
 use Rattle.locks.specs.declared.Security.{Security}
 use Rattle.locks.specs.declared.Locks.{Locks}
@@ -21,9 +25,13 @@ use Rattle.locks.specs.declared.Event.{Event}
 use Rattle.locks.specs.Events.{kindOf, clockOf, serviceIn, passed}
 use Rattle.locks.specs.Locks.{voids, renews, unlocks, isWrong, endsRow, lockInOrder}
 
--- No warm-up, no calibration, no sign-in.
+-- No run that passed.
+abbrev pub noRuns : Rollers
+noRuns = record { faster = false; slower = false }
+
+-- No warm-up, no calibration, no coast-down, no sign-in.
 abbrev pub noSession : Session
-noSession = record { warm = false; calibrated = No; signed = Out }
+noSession = record { warm = false; calibrated = No; rollers = noRuns; signed = Out }
 
 -- No wrong try, no lock.
 abbrev pub noSecurity : Security
@@ -47,10 +55,28 @@ calibratedWith clock service.Nothing c = c
 calibratedWith clock (service.NewClock new) c = c
 calibratedWith clock (service.Outcome outcome) c = calibratedBy (passed outcome) clock No
 calibratedWith clock (service.Tried outcome) c = c
+calibratedWith clock (service.Ran run) c = c
 
 -- The same, until it is void.
 unfoldable pub calibratedAfter : ℕ → ℕ → Service → Calibrated → Calibrated
 calibratedAfter kind clock x c = pick (voids kind) No (calibratedWith clock x c)
+
+-- A coast-down run in place of the one before of its speeds: whether it passed.
+abbrev pub ranBy : SpeedRange → Bool → Rollers → Rollers
+ranBy Faster passed k = record { faster = passed; slower = k .slower }
+ranBy Slower passed k = record { faster = k .faster; slower = passed }
+
+-- The same, by what an event carries.
+abbrev pub ranWith : Service → Rollers → Rollers
+ranWith service.Nothing k = k
+ranWith (service.NewClock new) k = k
+ranWith (service.Outcome outcome) k = k
+ranWith (service.Tried outcome) k = k
+ranWith (service.Ran run) k = ranBy (run .speeds) (runPassed run) k
+
+-- The same, until it is void.
+unfoldable pub ranAfter : ℕ → Service → Rollers → Rollers
+ranAfter kind x k = pick (voids kind) noRuns (ranWith x k)
 
 -- A good try signs in until its expiry; "A wrong try also signs out."
 abbrev pub signedBy : Tried → SignIn
@@ -63,16 +89,18 @@ signedWith service.Nothing s = s
 signedWith (service.NewClock new) s = s
 signedWith (service.Outcome outcome) s = s
 signedWith (service.Tried outcome) s = signedBy outcome
+signedWith (service.Ran run) s = s
 
 -- The same, until it is void.
 unfoldable pub signedAfter : ℕ → Service → SignIn → SignIn
 signedAfter kind x s = pick (voids kind) Out (signedWith x s)
 
--- "Power-on and clock setting void warm-up, calibration and sign-in (as none)".
+-- "Power-on and clock setting void warm-up, calibration and sign-in (as none)", and with document 02, A.2, coast-down runs.
 abbrev pub sessionAfter : Session → ℕ → ℕ → Service → Session
 sessionAfter s kind clock x = record {
   warm = warmAfter kind (s .warm);
   calibrated = calibratedAfter kind clock x (s .calibrated);
+  rollers = ranAfter kind x (s .rollers);
   signed = signedAfter kind x (s .signed);
 }
 
@@ -138,9 +166,13 @@ abbrev pub calibrationOld : ℕ → ℕ → Calibrated → Bool
 calibrationOld validity now No = true
 calibrationOld validity now (At clock) = ltb (clock + validity) now
 
+-- A run of either speed that did not pass, or none.
+abbrev pub uncoasted : Rollers → Bool
+uncoasted k = not (k .faster) || not (k .slower)
+
 -- Lock 3.
 abbrev pub uncalibrated : ℕ → ℕ → Session → Bool
-uncalibrated validity now s = calibrationOld validity now (s .calibrated)
+uncalibrated validity now s = calibrationOld validity now (s .calibrated) || uncoasted (s .rollers)
 
 -- Its expiry before now, or none.
 abbrev pub signInOver : ℕ → SignIn → Bool

@@ -52,6 +52,7 @@ pub fn contents_of(event: Event) -> Contents
             clock,
             carried: Carried::Stop(cause),
         },
+        Event::CoastDown { clock, run } => service_event(12, clock, Service::Ran(run)),
     }
 }
 
@@ -92,6 +93,7 @@ fn clock_with(x: Service, clock: u32) -> u32
         Service::NewClock(new) => new,
         Service::Outcome(_) => clock,
         Service::Tried(_) => clock,
+        Service::Ran(_) => clock,
     }
 }
 

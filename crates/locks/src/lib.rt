@@ -1,4 +1,4 @@
-// Document 01, "Locks of the bench": the eleven events, and what locks a start.
+// Document 01, "Locks of the bench", and document 02, A.2: the twelve events, and what locks a start.
 // Exported: Event, with its kind, its clocks and what it carries (Contents); Locks, what the seven locks are read from, after each
 // accepted event and each verdict; lock_number, the first lock that stands. specs/Locks.antt reads the same locks from the list of
 // accepted events, and specs/Plain.antt says in plain words when each stands.
@@ -6,6 +6,7 @@ ghost use mathlib.Core.Path.{_≡_};
 ghost use Rattle.locks.specs.Claims.{LockClaims};
 ghost use Rattle.locks.specs.State.{freshLocks, locksAfter, verdictCounted, lockNumber};
 
+mod coasting;
 mod events;
 mod standing;
 mod tries;
@@ -22,6 +23,7 @@ use crate::tries::NO_SECURITY;
 use crate::tries::security_after;
 use crate::validity::NO_SESSION;
 use crate::validity::session_after;
+use coast_down::Run;
 use reading::Readings;
 use vehicle::Settings;
 
@@ -37,7 +39,7 @@ pub enum Try {
     Wrong,
 }
 
-// An event of the bench, each with its clock in seconds, in the order of document 01's kinds 1 to 11.
+// An event of the bench, each with its clock in seconds, in the order of document 01's kinds 1 to 11 and document 02's kind 12.
 pub enum Event {
     PowerOn {
         clock: u32,
@@ -79,6 +81,10 @@ pub enum Event {
         clock: u32,
         cause: u8,
     },
+    CoastDown {
+        clock: u32,
+        run: Run,
+    },
 }
 
 // What an event that is no start, second or stop carries beside its clock.
@@ -87,6 +93,7 @@ pub enum Service {
     NewClock(u32),
     Outcome(Calibration),
     Tried(Try),
+    Ran(Run),
 }
 
 // What an event carries beside its clock.
@@ -116,10 +123,17 @@ pub enum SignIn {
     Until(u32),
 }
 
+// Whether the latest coast-down run of each speed passed.
+pub struct Rollers {
+    faster: bool,
+    slower: bool,
+}
+
 // What power-on and clock setting void.
 pub struct Session {
     warm: bool,
     calibrated: Calibrated,
+    rollers: Rollers,
     signed: SignIn,
 }
 

@@ -30,6 +30,7 @@ fn is_wrong(x: Service) -> bool
         Service::NewClock(_) => false,
         Service::Outcome(_) => false,
         Service::Tried(outcome) => wrong_outcome(outcome),
+        Service::Ran(_) => false,
     }
 }
 
@@ -51,6 +52,7 @@ fn ends_row(x: Service) -> bool
         Service::NewClock(_) => false,
         Service::Outcome(_) => false,
         Service::Tried(outcome) => good_outcome(outcome),
+        Service::Ran(_) => false,
     }
 }
 

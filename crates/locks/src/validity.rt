@@ -1,4 +1,4 @@
-// Warm-up, calibration and sign-in: what power-on and clock setting void.
+// Warm-up, calibration, coast-down and sign-in: what power-on and clock setting void.
 ghost use mathlib.Core.Path.{_≡_};
 ghost use Rattle.locks.specs.Events.{passed};
 ghost use Rattle.locks.specs.Locks.{voids};
@@ -23,16 +23,18 @@ use crate::Service;
 use crate::Session;
 use crate::SignIn;
 use crate::Try;
+use crate::coasting;
 use crate::standing::older;
 
 pub(crate) const NO_SESSION: Session = Session {
     warm: false,
     calibrated: Calibrated::No,
+    rollers: coasting::NO_RUNS,
     signed: SignIn::Out,
 };
 
 // Power-on and clock setting.
-fn voids(kind: u8) -> bool
+pub(crate) fn voids(kind: u8) -> bool
     ensures { λ r. ⌜ r ≡ voids kind ⌝ }
 {
     (kind == 1) | (kind == 2)
@@ -75,6 +77,7 @@ fn calibrated_with(clock: u32, x: Service, calibrated: Calibrated) -> Calibrated
         Service::NewClock(_) => calibrated,
         Service::Outcome(outcome) => calibrated_by(passed(outcome), clock, Calibrated::No),
         Service::Tried(_) => calibrated,
+        Service::Ran(_) => calibrated,
     }
 }
 
@@ -106,6 +109,7 @@ fn signed_with(x: Service, signed: SignIn) -> SignIn
         Service::NewClock(_) => signed,
         Service::Outcome(_) => signed,
         Service::Tried(outcome) => signed_by(outcome),
+        Service::Ran(_) => signed,
     }
 }
 
@@ -123,10 +127,12 @@ pub(crate) fn session_after(s: Session, kind: u8, clock: u32, x: Service) -> Ses
     ensures { λ r. ⌜ r ≡ sessionAfter s kind clock x ⌝ }
 {
     let calibrated = s.calibrated;
+    let rollers = s.rollers;
     let signed = s.signed;
     Session {
         warm: warm_after(kind, s.warm),
         calibrated: calibrated_after(kind, clock, x, calibrated),
+        rollers: coasting::ran_after(kind, x, rollers),
         signed: signed_after(kind, x, signed),
     }
 }
@@ -152,7 +158,8 @@ pub(crate) fn uncalibrated(validity: u32, now: u32, s: Session) -> bool
     ensures { λ r. ⌜ r ≡ uncalibrated validity now s ⌝ }
 {
     let c = s.calibrated;
-    calibration_old(validity, now, c)
+    let rollers = s.rollers;
+    calibration_old(validity, now, c) | coasting::uncoasted(rollers)
 }
 
 fn sign_in_over(now: u32, signed: SignIn) -> bool

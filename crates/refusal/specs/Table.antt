@@ -1,4 +1,4 @@
--- Document 01's refusal table, a row a definition: the cause, its number, and what is returned as the place.
+-- Document 01's refusal table with the rows that document 02 adds, a row a definition: the cause, its number, and what is returned as the place.
 use Prim.Native.Nat.{ℕ}
 use Rattle.refusal.specs.declared.Refusal.{Refusal}
 
@@ -65,3 +65,11 @@ startLocked lock = refusal 14 lock
 -- stop cause, V or U unfit
 abbrev pub causeUnfit : Refusal
 causeUnfit = refusal 15 0
+
+-- inertia of a coast-down run out of range (document 02, A.2)
+abbrev pub inertiaUnfit : Refusal
+inertiaUnfit = refusal 16 0
+
+-- power of a coast-down run out of range (document 02, A.2)
+abbrev pub powerUnfit : Refusal
+powerUnfit = refusal 17 0

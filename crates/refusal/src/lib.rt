@@ -1,4 +1,4 @@
-// A refusal as document 01's table gives it: the cause's number and the place returned with it.
+// A refusal as the table of document 01 and the requests of document 02 give it: the cause's number and the place returned with it.
 // No function: the table's rows are the definitions in specs/Table.antt, which every crate's contracts cite, and their numbers
 // the constants here, which every crate's code takes.
 
@@ -51,3 +51,9 @@ pub const START_LOCKED: u8 = 14;
 
 // stop cause, V or U unfit
 pub const CAUSE_UNFIT: u8 = 15;
+
+// coast-down inertia out of range
+pub const INERTIA_UNFIT: u8 = 16;
+
+// coast-down power out of range
+pub const POWER_UNFIT: u8 = 17;

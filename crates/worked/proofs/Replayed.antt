@@ -27,18 +27,20 @@ use Rattle.loaded_test.specs.Rest.{restCount, rested}
 use Rattle.loaded_test.specs.Settling.{settlingLeft, closedOne, closedTwo, settlesIn, settles}
 use Rattle.loaded_test.specs.Steps.{measured, inAttempt, secondAt, second, isResting, stop, begunBy, begin}
 use Rattle.loaded_test.specs.Voids.{modeEnded, voidCounted, voidNext, twiceInconclusive, thirdVoid, voidFollowed, voided, stepFive}
+use Rattle.coast_down.specs.Passing.{runPassed}
+use Rattle.locks.specs.Events.{ofSpeeds}
 use Rattle.locks.specs.Accepted.{since, any, orElse, latestOf}
-use Rattle.locks.specs.Locks.{notWarm, activeClock, overdue, inactive, expired, noneValid, latestCalibration, notCalibrated, noneGood, latestTry, notSignedIn, wrongTries, wrongRow, passwordLock, authorityLock, withVerdict, verdictsIn, unsentIn, unsentLock, firstStanding, lockInOrder, lockOf}
-use Rattle.locks.specs.State.{warmAfter, calibratedBy, calibratedAfter, signedAfter, activeAfter, wrongAfter, securityAfter, unsentAfter, lockNumber}
+use Rattle.locks.specs.Locks.{notWarm, activeClock, overdue, inactive, expired, noneValid, latestCalibration, latestRun, nonePassed, notCoasted, notCalibrated, noneGood, latestTry, notSignedIn, wrongTries, wrongRow, passwordLock, authorityLock, withVerdict, verdictsIn, unsentIn, unsentLock, firstStanding, lockInOrder, lockOf}
+use Rattle.locks.specs.State.{warmAfter, calibratedBy, calibratedAfter, ranAfter, signedAfter, activeAfter, wrongAfter, securityAfter, unsentAfter, lockNumber}
 use Rattle.reading.specs.Fitness.{readingFit, leastUnfit}
-use Rattle.bench.specs.Causes.{settingAt, saturationBad, causeBad, automaticOf, readingAt, lockAt, causes, firstCause}
+use Rattle.bench.specs.Causes.{settingAt, saturationBad, causeBad, automaticOf, readingAt, inertiaBad, powerBad, lockAt, causes, firstCause}
 use Rattle.bench.specs.History.{runs}
-use Rattle.bench.specs.Stepping.{lockRuling, startTaken, secondTaken, stepBy, step}
+use Rattle.bench.specs.Stepping.{inertiaRuling, powerRuling, serviceTaken, lockRuling, startTaken, secondTaken, stepBy, step}
 use Rattle.bench.specs.Telling.{secondInput, verdictNext, verdictTold, endedBy, stepTaken, leftBy, acceptance, added, tell, historyAnswers}
 use Rattle.worked.specs.Runs.{Played}
 
 pub played : Played
-unfolding benchAnswers pick readingOf accepted unitCount Rattle.reading.specs.Rounding.halfUp judgedOf keep secondFrom secondOf dcfOf kH Rattle.correction.specs.Rounding.halfUp vehicleOf checkedOf aimOf inTolerance limitsFor rowUpTo displacementBounds loads loadFor targetFor ranges rangeAt settingFit firstUnfit unfitPlace sumOf sumNo windowPasses secondOut secondSteady measuredOf windowValid inRow inAll atNinety earlyPass endingRule tallied windowCounted ready screened begunAnew watched settledOne settledTwo secondOne secondTwo isRunning closed concluded windowTaken windowJudged windowKept measures Rattle.loaded_test.specs.Measuring.judged replay restCount rested settlingLeft closedOne closedTwo settlesIn settles measured inAttempt secondAt second isResting stop begunBy begin Rattle.loaded_test.specs.Steps.stopTaken modeEnded voidCounted voidNext twiceInconclusive thirdVoid voidFollowed voided stepFive since any orElse latestOf notWarm activeClock overdue inactive expired noneValid latestCalibration notCalibrated noneGood latestTry notSignedIn wrongTries wrongRow passwordLock authorityLock withVerdict verdictsIn unsentIn unsentLock firstStanding lockInOrder lockOf warmAfter calibratedBy calibratedAfter signedAfter activeAfter wrongAfter securityAfter unsentAfter lockNumber settingAt saturationBad causeBad automaticOf readingFit leastUnfit readingAt lockAt causes firstCause runs lockRuling startTaken secondTaken stepBy step Rattle.bench.specs.Stepping.stopTaken secondInput verdictNext verdictTold endedBy stepTaken leftBy acceptance added tell historyAnswers Rattle.bench.specs.Telling.judged
+unfolding benchAnswers pick readingOf accepted unitCount Rattle.reading.specs.Rounding.halfUp judgedOf keep secondFrom secondOf dcfOf kH Rattle.correction.specs.Rounding.halfUp vehicleOf checkedOf aimOf inTolerance limitsFor rowUpTo displacementBounds loads loadFor targetFor ranges rangeAt settingFit firstUnfit unfitPlace sumOf sumNo windowPasses secondOut secondSteady measuredOf windowValid inRow inAll atNinety earlyPass endingRule tallied windowCounted ready screened begunAnew watched settledOne settledTwo secondOne secondTwo isRunning closed concluded windowTaken windowJudged windowKept measures Rattle.loaded_test.specs.Measuring.judged replay restCount rested settlingLeft closedOne closedTwo settlesIn settles measured inAttempt secondAt second isResting stop begunBy begin Rattle.loaded_test.specs.Steps.stopTaken modeEnded voidCounted voidNext twiceInconclusive thirdVoid voidFollowed voided stepFive runPassed ofSpeeds since any orElse latestOf notWarm activeClock overdue inactive expired noneValid latestCalibration latestRun nonePassed notCoasted notCalibrated noneGood latestTry notSignedIn wrongTries wrongRow passwordLock authorityLock withVerdict verdictsIn unsentIn unsentLock firstStanding lockInOrder lockOf warmAfter calibratedBy calibratedAfter ranAfter signedAfter activeAfter wrongAfter securityAfter unsentAfter lockNumber settingAt saturationBad causeBad automaticOf readingFit leastUnfit readingAt inertiaBad powerBad lockAt causes firstCause runs inertiaRuling powerRuling serviceTaken lockRuling startTaken secondTaken stepBy step Rattle.bench.specs.Stepping.stopTaken secondInput verdictNext verdictTold endedBy stepTaken leftBy acceptance added tell historyAnswers Rattle.bench.specs.Telling.judged
 played = record {
   passing = record { bench = refl; history = refl };
   afterVoid = record { bench = refl; history = refl };
@@ -55,6 +57,11 @@ played = record {
   expiredBetween = record { bench = refl; history = refl };
   lockedByAuthority = record { bench = refl; history = refl };
   unsent = record { bench = refl; history = refl };
+  coastedFirst = record { bench = refl; history = refl };
+  coastDownVoided = record { bench = refl; history = refl };
+  failedRunLast = record { bench = refl; history = refl };
+  runRenewsNothing = record { bench = refl; history = refl };
+  runsRefused = record { bench = refl; history = refl };
   oneOfEach = record { bench = refl; history = refl };
   firstOfSeveral = record { bench = refl; history = refl };
   clockKept = record { bench = refl; history = refl };

@@ -1,5 +1,5 @@
 -- Document 01, "Worked by hand": the starred cases as one table. Each row sets what the definitions give against what document 01 writes.
--- At its end stand figures for document 02's A.1, the engine speed on the sheet: what the definitions give against what A.1's sentences ask for.
+-- At its end stand figures for document 02: A.1, the engine speed on the sheet, and A.2, coast-down runs.
 use mathlib.Core.Path.{_≡_}
 use mathlib.Core.Bool.{Bool, true, false}
 use mathlib.Core.List.{List, [], _∷_}
@@ -21,12 +21,15 @@ use Rattle.window.specs.declared.Measured.{Measured}
 use Rattle.window.specs.declared.EngineSpeed.the-variants.{Mean, Absent}
 use Rattle.window.specs.Measuring.{measuredOf}
 use Rattle.window.specs.Engine.{engineSpeedOf}
+use Rattle.coast_down.specs.declared.SpeedRange.{SpeedRange}
+use Rattle.coast_down.specs.declared.SpeedRange.the-variants.{Faster, Slower}
+use Rattle.coast_down.specs.Passing.{runPassed}
 use Rattle.locks.specs.Accepted.{Accepted, accepted}
 use Rattle.locks.specs.Locks.{passwordLock, lockOf}
 use Rattle.locks.specs.declared.Calibration.the-variants.{Passed}
 use Rattle.locks.specs.declared.Try.the-variants.{Good, Wrong}
 use Rattle.locks.specs.declared.Event.the-variants.{WarmUp, Calibration, Try}
-use Rattle.worked.specs.Events.{times, motorcycle}
+use Rattle.worked.specs.Events.{times, motorcycle, runWith, faster, slower}
 
 -- The units of a second whose HC and CO have these bits and whose other readings are 0, with a manual gearbox.
 unfoldable pub gases : ℕ → ℕ → Converted
@@ -63,9 +66,14 @@ counts hc co = record {
 abbrev pub dcfAt : ℕ → ℕ → ℕ
 dcfAt a b = dcfOf (record { 0 = a }) (record { 0 = b })
 
--- A bench warmed up and calibrated, then n wrong tries, newest first; V a day and U 10, and a start at clock 100.
+-- A bench warmed up, calibrated and coasted down, then n wrong tries, newest first; V a day and U 10, and a start at clock 100.
 unfoldable pub wrongTries : ℕ → List Accepted
-wrongTries zero = accepted (Calibration 20 Passed) none ∷ accepted (WarmUp 10) none ∷ []
+wrongTries zero =
+    accepted (slower 20) none
+    ∷ accepted (faster 20) none
+    ∷ accepted (Calibration 20 Passed) none
+    ∷ accepted (WarmUp 10) none
+    ∷ []
 wrongTries (suc n) = accepted (Try 30 Wrong) none ∷ wrongTries n
 
 -- A good try, with expiry 1000.
@@ -101,7 +109,11 @@ turning engine = engineKept engine false
 abbrev pub engineless : Measured
 engineless = engineKept 0 true
 
--- The starred cases of "Worked by hand", one field a case; then the figures for document 02's A.1.
+-- Whether a run of these speeds and milliseconds passes, at this inertia and power.
+abbrev pub coasts : ℕ → ℕ → SpeedRange → ℕ → Bool
+coasts inertia power speeds milliseconds = runPassed (runWith inertia power speeds milliseconds)
+
+-- The starred cases of "Worked by hand", one field a case; then the figures for document 02's A.1 and A.2.
 pub record Worked : Type 0 where
   -- CO bits 0x3F80A3D7: 100
   pub coBits : gases 0 0x3F80A3D7 ≡ Fit (counts 0 100)
@@ -137,3 +149,18 @@ pub record Worked : Type 0 where
   pub engineZero : engineSpeedOf (times 10 (turning 0) []) ≡ Mean 0
   -- Document 02, A.1, "With any of the ten missing the field is "-"": nine 4000 and one missing
   pub engineOneMissing : engineSpeedOf (times 4 (turning 4000) (engineless ∷ times 5 (turning 4000) [])) ≡ Absent
+  -- Document 02, A.2, "For w 1200 and q 100 the first run passes from 5512 to 6340 ms"
+  pub fasterShort : coasts 1200 100 Faster 5511 ≡ false
+  pub fasterLeast : coasts 1200 100 Faster 5512 ≡ true
+  pub fasterMost : coasts 1200 100 Faster 6340 ≡ true
+  pub fasterLong : coasts 1200 100 Faster 6341 ≡ false
+  -- Document 02, A.2, "ends included": w 1134 and q 50 meet 93 and 107 percent exactly
+  pub exactShort : coasts 1134 50 Faster 10415 ≡ false
+  pub exactLeast : coasts 1134 50 Faster 10416 ≡ true
+  pub exactMost : coasts 1134 50 Faster 11984 ≡ true
+  pub exactLong : coasts 1134 50 Faster 11985 ≡ false
+  -- Document 02, A.2, the slower run for w 1200 and q 100
+  pub slowerShort : coasts 1200 100 Slower 3444 ≡ false
+  pub slowerLeast : coasts 1200 100 Slower 3445 ≡ true
+  pub slowerMost : coasts 1200 100 Slower 3962 ≡ true
+  pub slowerLong : coasts 1200 100 Slower 3963 ≡ false

@@ -8,19 +8,43 @@ use Rattle.reading.specs.declared.Reading.{Reading}
 use Rattle.reading.specs.declared.Reading.the-variants.{Value, Missing, Over}
 use Rattle.reading.specs.declared.Readings.{Readings}
 use Rattle.vehicle.specs.declared.Settings.{Settings}
+use Rattle.coast_down.specs.declared.SpeedRange.{SpeedRange}
+use Rattle.coast_down.specs.declared.SpeedRange.the-variants.{Faster, Slower}
+use Rattle.coast_down.specs.declared.Run.{Run}
 use Rattle.locks.specs.declared.Calibration.the-variants.{Passed}
 use Rattle.locks.specs.declared.Try.the-variants.{Good}
 use Rattle.locks.specs.declared.Event.{Event}
-use Rattle.locks.specs.declared.Event.the-variants.{WarmUp, Calibration, Try, Start, Second}
+use Rattle.locks.specs.declared.Event.the-variants.{WarmUp, Calibration, Try, Start, Second, CoastDown}
 
 -- n times the same, in front of a list.
 abbrev pub times : {A : Type 0} → ℕ → A → List A → List A
 times zero x l = l
 times (suc n) x l = x ∷ times n x l
 
--- The events, at one clock, that leave lock 4 alone standing: a warm-up and a passed calibration.
+-- A coast-down run of these speeds and measured milliseconds, with this inertia and power.
+abbrev pub runWith : ℕ → ℕ → SpeedRange → ℕ → Run
+runWith inertia power speeds milliseconds = record {
+  inertia = inertia;
+  power = power;
+  speeds = speeds;
+  milliseconds = milliseconds;
+}
+
+-- A coast-down run at inertia 1200 and power 100: its nominal times are 5925.9 ms and 3703.7 ms.
+abbrev pub coasting : ℕ → SpeedRange → ℕ → Event
+coasting now speeds milliseconds = CoastDown now (runWith 1200 100 speeds milliseconds)
+
+-- One of each speed that passes.
+abbrev pub faster : ℕ → Event
+faster now = coasting now Faster 5926
+
+-- The slower one.
+abbrev pub slower : ℕ → Event
+slower now = coasting now Slower 3704
+
+-- The events, at one clock, that leave lock 4 alone standing: a warm-up, a passed calibration and a passed run of each speed.
 abbrev pub signedOut : ℕ → List Event
-signedOut now = WarmUp now ∷ Calibration now Passed ∷ []
+signedOut now = WarmUp now ∷ Calibration now Passed ∷ faster now ∷ slower now ∷ []
 
 -- A sign-in for 100 s.
 abbrev pub signIn : ℕ → Event

@@ -3,6 +3,7 @@ pub mod Events
 pub mod Answers
 pub mod Tests
 pub mod Locking
+pub mod Coasting
 pub mod Refusing
 pub mod Voiding
 pub mod Runs

@@ -10,6 +10,7 @@ use Rattle.bench.specs.Demand.{benchAnswers}
 use Rattle.worked.specs.Answers.{Exchange, eventsOf, answersOf}
 use Rattle.worked.specs.Tests as tests
 use Rattle.worked.specs.Locking as locking
+use Rattle.worked.specs.Coasting as coasting
 use Rattle.worked.specs.Refusing as refusing
 use Rattle.worked.specs.Voiding.{SevenFirst}
 
@@ -45,6 +46,12 @@ pub record Played : Type 0 where
   pub expiredBetween : Answered locking.expiredBetween
   pub lockedByAuthority : Answered locking.lockedByAuthority
   pub unsent : Answered locking.unsent
+  -- coast-down runs
+  pub coastedFirst : Answered coasting.coastedFirst
+  pub coastDownVoided : Answered coasting.coastDownVoided
+  pub failedRunLast : Answered coasting.failedRunLast
+  pub runRenewsNothing : Answered coasting.runRenewsNothing
+  pub runsRefused : Answered coasting.runsRefused
   -- the refusal table and the clock
   pub oneOfEach : Answered refusing.oneOfEach
   pub firstOfSeveral : Answered refusing.firstOfSeveral

@@ -1,10 +1,10 @@
-// Document 01, "Worked by hand", and figures for document 02's A.1, computed from the definitions that the other crates' contracts cite.
+// Document 01, "Worked by hand", and figures for document 02's A.1 and A.2, computed from the definitions that the other crates' contracts cite.
 // Nothing is computed when the program runs: each function's contract is a claim, so that the claim cannot go without its proof.
 ghost use Rattle.worked.specs.Cases.{Worked};
 ghost use Rattle.worked.specs.Runs.{Played};
 
-// The starred cases, one table; at its end the mean engine speeds of document 02's A.1.
-// Ruled out: 101 units for CO bits 0x3F80A3D7, lock 5 at the third wrong try, and a mean of 3999.5 shown as 3999.
+// The starred cases, one table; at its end the mean engine speeds of document 02's A.1 and the coast-down times of its A.2.
+// Ruled out: 101 units for CO bits 0x3F80A3D7, lock 5 at the third wrong try, a mean of 3999.5 shown as 3999, and 107 percent of nominal failed.
 pub fn starred_cases()
     ensures { λ r. ⌜ Worked ⌝ }
 {}

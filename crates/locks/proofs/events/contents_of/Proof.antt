@@ -1,6 +1,9 @@
 use borrow.Author.Needs.{needs}
 use Rattle.locks.proofs.events.contents_of.Statement.{statement}
 use Rattle.locks.proofs.events.contents_of.Tie as tie
+use Rattle.locks.proofs.events.contents_of.Reads as reads
+use Rattle.locks.proofs.events.contents_of.Lts as lts
+use Rattle.locks.proofs.events.service_event.Reads as service-event-reads
 
 -- src/events.rt:26:26
 enum-known-event : tie.Need-enum-known-event
@@ -78,6 +81,14 @@ enum-known-event-10 c = search needs
 enum-known-event-11 : tie.Need-enum-known-event-11
 enum-known-event-11 c = search needs
 
+-- src/events.rt:55:28
+enum-known-event-12 : tie.Need-enum-known-event-12
+enum-known-event-12 c = search needs
+
+-- src/events.rt:55:44
+service-event-requires-9 : tie.Need-service-event-requires-9
+service-event-requires-9 c κs = search needs
+
 -- src/events.rt:22:1
 returns : tie.Need-returns
 returns c = simp (c .before .before .event .given .1) (c .service-event .ensures)
@@ -122,6 +133,10 @@ returns-10 c = simp (c .before .event10 .given .1)
 returns-11 : tie.Need-returns-11
 returns-11 c = simp (c .before .event11 .given .1)
 
+-- src/events.rt:22:1
+returns-12 : tie.Need-returns-12
+returns-12 c = simp (c .before .before .event12 .given .1) (c .service-event9 .ensures)
+
 pub contents-of-spec : {M : Type 1} → statement M
 contents-of-spec =
     tie.close
@@ -145,6 +160,8 @@ contents-of-spec =
     enum-known-event-9
     enum-known-event-10
     enum-known-event-11
+    enum-known-event-12
+    service-event-requires-9
     returns
     returns-2
     returns-3
@@ -155,4 +172,5 @@ contents-of-spec =
     returns-8
     returns-9
     returns-10
-    returns-11)
+    returns-11
+    returns-12)

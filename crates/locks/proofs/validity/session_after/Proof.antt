@@ -1,24 +1,39 @@
 use borrow.Author.Needs.{needs}
 use Rattle.locks.proofs.validity.session_after.Statement.{statement}
 use Rattle.locks.proofs.validity.session_after.Tie as tie
+use Rattle.locks.proofs.validity.session_after.Reads as reads
+use Rattle.locks.proofs.validity.session_after.Lts as lts
+use Rattle.locks.proofs.coasting.ran_after.Reads as ran-after-reads
+use Rattle.locks.proofs.validity.calibrated_after.Reads as calibrated-after-reads
+use Rattle.locks.proofs.validity.signed_after.Reads as signed-after-reads
+use Rattle.locks.proofs.validity.warm_after.Reads as warm-after-reads
 
--- src/validity.rt:115:15
+-- src/validity.rt:133:15
 warm-after-requires : tie.Need-warm-after-requires
 warm-after-requires c κs = search needs
 
--- src/validity.rt:116:21
+-- src/validity.rt:134:21
 calibrated-after-requires : tie.Need-calibrated-after-requires
 calibrated-after-requires c κs = search needs
 
--- src/validity.rt:117:17
+-- src/validity.rt:135:18
+ran-after-requires : tie.Need-ran-after-requires
+ran-after-requires c κs = search needs
+
+-- src/validity.rt:136:17
 signed-after-requires : tie.Need-signed-after-requires
 signed-after-requires c κs = search needs
 
--- src/validity.rt:109:1
+-- src/validity.rt:126:1
 returns : tie.Need-returns
-returns c = simp (c .before .before .warm-after .ensures, c .before .calibrated-after .ensures, c .signed-after .ensures)
+returns c = simp (c .before .before .before .warm-after .ensures, c .before .before .calibrated-after .ensures, c .before .ran-after .ensures, c .signed-after .ensures)
 
 pub session-after-spec : {M : Type 1} → statement M
 session-after-spec =
     tie.close
-    (tie.spec warm-after-requires calibrated-after-requires signed-after-requires returns)
+    (tie.spec
+    warm-after-requires
+    calibrated-after-requires
+    ran-after-requires
+    signed-after-requires
+    returns)
