@@ -14,7 +14,7 @@ use Rattle.refusal.specs.declared.Refusal.{Refusal}
 use Rattle.vehicle.specs.declared.Settings.{Settings}
 use Rattle.attempt.proofs.Tests.{and-right}
 use Rattle.locks.specs.declared.Event.{Event}
-use Rattle.locks.specs.declared.Event.the-variants.{Start}
+use Rattle.locks.specs.declared.Event.the-variants.{Start, CoastDown}
 use Rattle.locks.specs.Events.{clockOf}
 use Rattle.locks.specs.Accepted.{since, latestOf}
 use Rattle.locks.specs.Locks.{unsentIn, unsentLock}
@@ -31,6 +31,7 @@ use Rattle.bench.proofs.Refusing.{struck, split}
 use Rattle.bench.proofs.Kept.{unlocked}
 use Rattle.bench.proofs.Given.{FromEvents, after-read}
 use Rattle.bench.proofs.Firsts.{clock-exactly, locked-least}
+use Rattle.bench.proofs.Coasting.{run-answered, run-in-test}
 use Rattle.bench.proofs.Decided.{refused-exactly}
 use Rattle.bench.proofs.Demanded.{told, sound, demanded, bounded}
 
@@ -68,6 +69,8 @@ module _ (validity limit : ℕ) (fit : limit ≤ 255) where
     least = λ es e n a. locked-least validity limit (historyOf validity limit es) e n (first-row es e (startLocked n) .0 a);
     locks = stands-exactly validity limit;
     clock = clock-law;
+    coastDown = λ es clock run order idle. rw (told validity limit fit es (CoastDown clock run)) (run-answered validity limit (historyOf validity limit es) clock run order idle);
+    coastDownInTest = λ es clock run test order running. told validity limit fit es (CoastDown clock run) ∙ run-in-test validity limit (historyOf validity limit es) clock run order test running;
     split = λ es e fs. split (freshBench validity limit) es e fs;
     test = λ es. read es .test;
   }

@@ -5,6 +5,7 @@ pub mod Tied
 pub mod Kept
 pub mod Given
 pub mod Firsts
+pub mod Coasting
 pub mod Decided
 pub mod Earning
 pub mod Demanded

@@ -1,18 +1,24 @@
 -- Laws beside demand 3, for a bench of this V and U: what they say of the answers is read from the list of events and from the accepted ones alone.
-use Prim.Native.Nat.{ℕ, _<_}
+use Prim.Native.Nat.{ℕ, _≤_, _<_}
 use mathlib.Core.Bool.{true}
 use mathlib.Core.Path.{_≡_}
 use mathlib.Core.Logic.{_↔_}
 use mathlib.Core.List.{List, [], _∷_, _++_, map}
+use mathlib.Core.Option.{none, some}
 use lib.ListN.{length, take, drop}
-use Rattle.refusal.specs.Table.{clockEarlier, startLocked}
+use Rattle.refusal.specs.Table.{clockEarlier, testRunning, startLocked, inertiaUnfit, powerUnfit}
 use Rattle.refusal.specs.declared.Refusal.{Refusal}
+use Rattle.loaded_test.specs.declared.Test.{Test}
+use Rattle.coast_down.specs.declared.Run.{Run}
+use Rattle.coast_down.specs.Claims.{Between}
 use Rattle.locks.specs.declared.Event.{Event}
+use Rattle.locks.specs.declared.Event.the-variants.{CoastDown}
 use Rattle.locks.specs.Events.{clockOf, clockAfter}
 use Rattle.locks.specs.Accepted.{Accepted}
 use Rattle.locks.specs.Claims.{StandsExactly}
 use Rattle.locks.specs.Locks.{notWarm, inactive, notCalibrated, notSignedIn, passwordLock, authorityLock, unsentLock}
-use Rattle.bench.specs.declared.Answer.the-variants.{Refused}
+use Rattle.bench.specs.declared.Answer.{Answer}
+use Rattle.bench.specs.declared.Answer.the-variants.{Accepted as AnswerAccepted, Refused}
 use Rattle.bench.specs.declared.Bench.{Bench}
 use Rattle.bench.specs.declared.Handled.{Handled}
 use Rattle.bench.specs.History.{History}
@@ -45,6 +51,13 @@ pub record LeastLock (validity limit now : ℕ) (l : List Accepted) (n : ℕ) : 
   pub stands : LockStands validity limit now l n
   pub noneLower : (k : ℕ) → k < n → LockStands validity limit now l k → ⊥
 
+-- What a coast-down run is answered where its clock and a running test do not refuse it: "16 inertia out of range, then 17 power", and
+-- accepted whatever its time.
+pub record RunAnswered (run : Run) (a : Answer) : Type 0 where
+  pub inertia : (a ≡ Refused inertiaUnfit) ↔ (Between 1050 1350 (run .inertia) → ⊥)
+  pub power : (a ≡ Refused powerUnfit) ↔ (Between 1050 1350 (run .inertia) × (Between 50 325 (run .power) → ⊥))
+  pub fit : (a ≡ AnswerAccepted) ↔ (Between 1050 1350 (run .inertia) × Between 50 325 (run .power))
+
 -- For every list of events, of any kinds in any order.
 pub record Laws (validity limit : ℕ) : Type 0 where
   -- an event that is refused might as well not have been given: whatever comes after it is answered as without it
@@ -68,6 +81,17 @@ pub record Laws (validity limit : ℕ) : Type 0 where
       (es : List Event) (e : Event) (n : ℕ) →
       (answerAfter validity limit es e ≡ Refused (clockEarlier n)) ↔
       ((n ≡ lastClock (historyOf validity limit es .events)) × (clockOf e < n))
+  -- a coast-down run in clock order: by its inertia and power where no test runs, refused 12 where one does
+  pub coastDown :
+      (es : List Event) (clock : ℕ) (run : Run) →
+      historyOf validity limit es .last ≤ clock →
+      historyOf validity limit es .test ≡ none →
+      RunAnswered run (answerAfter validity limit es (CoastDown clock run))
+  pub coastDownInTest :
+      (es : List Event) (clock : ℕ) (run : Run) (test : Test) →
+      historyOf validity limit es .last ≤ clock →
+      historyOf validity limit es .test ≡ some test →
+      answerAfter validity limit es (CoastDown clock run) ≡ Refused testRunning
   -- the answer at each split of a list is the list's element there
   pub split :
       (es : List Event) (e : Event) (fs : List Event) →

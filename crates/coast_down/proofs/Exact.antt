@@ -3,16 +3,22 @@ use Prim.Native.Nat.{ℕ, _+_, _-_, _*_, _^_, _≤_, _<_}
 use native.Mathlib.Nat.{zero-mul, mul-zero, zero-add, add-zero, one-mul, mul-one, mul-le-mul, mul-le-mul-right, le-of-mul-le-mul-right}
 use native.Mathlib.Omega.{arith}
 use mathlib.Core.Bool.{Bool, true, _&&_}
-use mathlib.Core.Path.{_≡_, ap, sym, subst, _∙_}
+use mathlib.Core.Path.{_≡_, ap, sym, _∙_}
 use mathlib.Core.Logic.{_↔_}
 use lib.Dec.{leb}
 use Rattle.refusal.proofs.Exactly.{leb-exactly, and-exactly}
 use Rattle.coast_down.specs.declared.SpeedRange.{SpeedRange}
 use Rattle.coast_down.specs.declared.SpeedRange.the-variants.{Faster, Slower}
 use Rattle.coast_down.specs.declared.Run.{Run}
-use Rattle.coast_down.specs.Passing.{nominalTime, nominal, percent, measured, atMost, runPassed, wholeNominal}
+use Rattle.coast_down.specs.Passing.{nominalTime, nominal, runPassed, wholeNominal}
 use Rattle.coast_down.specs.Annex.{NominalReduced}
-use Rattle.coast_down.specs.Claims.{apart, WithinSeven, WithinWhole, RunClaims}
+use Rattle.coast_down.specs.Claims.{InertiaExactly, PowerExactly, apart, WithinSeven, WithinWhole, RunClaims}
+
+pub inertia-exactly : InertiaExactly
+inertia-exactly w = and-exactly _ _ (leb-exactly _ _) (leb-exactly _ _)
+
+pub power-exactly : PowerExactly
+power-exactly q = and-exactly _ _ (leb-exactly _ _) (leb-exactly _ _)
 
 ruleset zeros = (zero-mul, mul-zero, zero-add, add-zero, one-mul, mul-one)
 

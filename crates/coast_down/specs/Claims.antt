@@ -1,11 +1,23 @@
--- What holds of every run, in plain propositions over its whole numbers; the contract of `run_passed` carries it.
+-- What holds of every run, in plain propositions over its whole numbers; the contracts of this crate's functions carry it.
 use Prim.Native.Nat.{ℕ, _+_, _-_, _*_, _≤_, _<_}
 use mathlib.Core.Bool.{true}
 use mathlib.Core.Path.{_≡_}
 use mathlib.Core.Logic.{_↔_}
 use Rattle.coast_down.specs.declared.Run.{Run}
-use Rattle.coast_down.specs.Passing.{Time, seconds, nominal, measured, percent, runPassed, wholeNominal}
+use Rattle.coast_down.specs.Passing.{inertiaFit, powerFit, Time, seconds, nominal, measured, percent, runPassed, wholeNominal}
 use Rattle.coast_down.specs.Annex.{NominalReduced}
+
+-- From the one to the other, ends included.
+abbrev pub Between : ℕ → ℕ → ℕ → Type 0
+Between least greatest n = (least ≤ n) × (n ≤ greatest)
+
+-- An inertia is fit exactly from 105.0 to 135.0 kg.
+abbrev pub InertiaExactly : Type 0
+InertiaExactly = (w : ℕ) → (inertiaFit w ≡ true) ↔ Between 1050 1350 w
+
+-- A power is fit exactly from 0.50 to 3.25 kW.
+abbrev pub PowerExactly : Type 0
+PowerExactly = (q : ℕ) → (powerFit q ≡ true) ↔ Between 50 325 q
 
 -- The first time is at most the second.
 abbrev pub AtMost : Time → Time → Type 0

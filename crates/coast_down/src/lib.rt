@@ -2,7 +2,7 @@
 // Exported: Run with its SpeedRange, inertia_fit, power_fit and run_passed.
 ghost use mathlib.Core.Path.{_≡_};
 ghost use Rattle.coast_down.specs.Passing.{inertiaFit, powerFit, wholeNominal, runPassed};
-ghost use Rattle.coast_down.specs.Claims.{RunClaims};
+ghost use Rattle.coast_down.specs.Claims.{InertiaExactly, PowerExactly, RunClaims};
 
 // Which run: the faster, from 48 to 32 km/h, or the slower, from 33 to 17.
 pub enum SpeedRange {
@@ -21,7 +21,7 @@ pub struct Run {
 // Inertia in 0.1 kg: 1050 to 1350.
 // Ruled out: 1049 taken, and 1350 refused.
 pub fn inertia_fit(inertia: u16) -> bool
-    ensures { λ r. ⌜ r ≡ inertiaFit inertia ⌝ }
+    ensures { λ r. ⌜ (r ≡ inertiaFit inertia) × InertiaExactly ⌝ }
 {
     (1_050 <= inertia) & (inertia <= 1_350)
 }
@@ -29,7 +29,7 @@ pub fn inertia_fit(inertia: u16) -> bool
 // Power in 0.01 kW: 50 to 325.
 // Ruled out: 326 taken, and 50 refused.
 pub fn power_fit(power: u16) -> bool
-    ensures { λ r. ⌜ r ≡ powerFit power ⌝ }
+    ensures { λ r. ⌜ (r ≡ powerFit power) × PowerExactly ⌝ }
 {
     (50 <= power) & (power <= 325)
 }

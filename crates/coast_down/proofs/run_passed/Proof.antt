@@ -1,12 +1,9 @@
 use Rattle.coast_down.proofs.Exact.{wholePassed, passed-whole, run-claims, time-fits}
 use Prim.Native.Nat.{ℕ, _*_}
-use mathlib.Core.Path.{_≡_, ap, sym, _∙_}
+use mathlib.Core.Path.{ap, sym, _∙_}
 use borrow.Author.Needs.{needs}
 use Rattle.coast_down.proofs.run_passed.Statement.{statement}
 use Rattle.coast_down.proofs.run_passed.Tie as tie
-use Rattle.coast_down.proofs.run_passed.Reads as reads
-use Rattle.coast_down.proofs.run_passed.Lts as lts
-use Rattle.coast_down.proofs.whole_nominal.Reads as whole-nominal-reads
 
 -- src/lib.rt:54:19
 whole-nominal-requires : tie.Need-whole-nominal-requires

@@ -1,8 +1,6 @@
 use borrow.Author.Needs.{needs}
 use Rattle.coast_down.proofs.whole_nominal.Statement.{statement}
 use Rattle.coast_down.proofs.whole_nominal.Tie as tie
-use Rattle.coast_down.proofs.whole_nominal.Reads as reads
-use Rattle.coast_down.proofs.whole_nominal.Lts as lts
 
 -- src/lib.rt:42:41
 enum-told : tie.Need-enum-told

@@ -3,9 +3,6 @@ use Rattle.refusal.specs.Choice.{pick}
 use borrow.Author.Needs.{needs}
 use Rattle.bench.proofs.taking.inertia_ruling.Statement.{statement}
 use Rattle.bench.proofs.taking.inertia_ruling.Tie as tie
-use Rattle.bench.proofs.taking.inertia_ruling.Reads as reads
-use Rattle.bench.proofs.taking.inertia_ruling.Lts as lts
-use Rattle.coast_down.proofs.inertia_fit.Reads as inertia-fit-reads
 
 -- src/taking.rt:124:9
 inertia-fit-requires : tie.Need-inertia-fit-requires
@@ -14,12 +11,12 @@ inertia-fit-requires c κs = search needs
 -- src/taking.rt:126:9
 returns : tie.Need-returns
 unfolding inertiaRuling pick
-returns c = simp (← c .before .inertia-fit .ensures, c .if1 .taken)
+returns c = simp (← c .before .inertia-fit .ensures .0, c .if1 .taken)
 
 -- src/taking.rt:121:1
 returns-2 : tie.Need-returns-2
 unfolding inertiaRuling pick
-returns-2 c = simp (← c .before .inertia-fit .ensures, c .if1 .left)
+returns-2 c = simp (← c .before .inertia-fit .ensures .0, c .if1 .left)
 
 pub inertia-ruling-spec : {M : Type 1} → statement M
 inertia-ruling-spec = tie.close (tie.spec inertia-fit-requires returns returns-2)

@@ -2,11 +2,6 @@ use mathlib.Core.Path.{_∙_}
 use borrow.Author.Needs.{needs}
 use Rattle.bench.proofs.taking.run_ruling.Statement.{statement}
 use Rattle.bench.proofs.taking.run_ruling.Tie as tie
-use Rattle.bench.proofs.taking.run_ruling.Reads as reads
-use Rattle.bench.proofs.taking.run_ruling.Lts as lts
-use Rattle.bench.proofs.taking.first_refusal.Reads as first-refusal-reads
-use Rattle.bench.proofs.taking.inertia_ruling.Reads as inertia-ruling-reads
-use Rattle.bench.proofs.taking.power_ruling.Reads as power-ruling-reads
 
 -- src/taking.rt:145:9
 inertia-ruling-requires : tie.Need-inertia-ruling-requires

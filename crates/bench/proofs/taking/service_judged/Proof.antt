@@ -1,10 +1,6 @@
 use borrow.Author.Needs.{needs}
 use Rattle.bench.proofs.taking.service_judged.Statement.{statement}
 use Rattle.bench.proofs.taking.service_judged.Tie as tie
-use Rattle.bench.proofs.taking.service_judged.Reads as reads
-use Rattle.bench.proofs.taking.service_judged.Lts as lts
-use Rattle.bench.proofs.taking.plain_taken.Reads as plain-taken-reads
-use Rattle.bench.proofs.taking.refused.Reads as refused-reads
 
 -- src/taking.rt:167:26
 enum-told : tie.Need-enum-told

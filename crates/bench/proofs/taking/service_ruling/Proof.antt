@@ -1,9 +1,6 @@
 use borrow.Author.Needs.{needs}
 use Rattle.bench.proofs.taking.service_ruling.Statement.{statement}
 use Rattle.bench.proofs.taking.service_ruling.Tie as tie
-use Rattle.bench.proofs.taking.service_ruling.Reads as reads
-use Rattle.bench.proofs.taking.service_ruling.Lts as lts
-use Rattle.bench.proofs.taking.run_ruling.Reads as run-ruling-reads
 
 -- src/taking.rt:154:29
 enum-told : tie.Need-enum-told

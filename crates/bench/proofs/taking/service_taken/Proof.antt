@@ -3,10 +3,6 @@ use mathlib.Core.Path.{_∙_}
 use borrow.Author.Needs.{needs}
 use Rattle.bench.proofs.taking.service_taken.Statement.{statement}
 use Rattle.bench.proofs.taking.service_taken.Tie as tie
-use Rattle.bench.proofs.taking.service_taken.Reads as reads
-use Rattle.bench.proofs.taking.service_taken.Lts as lts
-use Rattle.bench.proofs.taking.service_judged.Reads as service-judged-reads
-use Rattle.bench.proofs.taking.service_ruling.Reads as service-ruling-reads
 
 -- src/taking.rt:176:9
 service-ruling-requires : tie.Need-service-ruling-requires

@@ -2,12 +2,6 @@ use mathlib.Core.Path.{_∙_}
 use borrow.Author.Needs.{needs}
 use Rattle.bench.proofs.taking.taken.Statement.{statement}
 use Rattle.bench.proofs.taking.taken.Tie as tie
-use Rattle.bench.proofs.taking.taken.Reads as reads
-use Rattle.bench.proofs.taking.taken.Lts as lts
-use Rattle.bench.proofs.taking.second_taken.Reads as second-taken-reads
-use Rattle.bench.proofs.taking.service_taken.Reads as service-taken-reads
-use Rattle.bench.proofs.taking.start_taken.Reads as start-taken-reads
-use Rattle.bench.proofs.taking.stop_taken.Reads as stop-taken-reads
 
 -- src/taking.rt:324:26
 enum-known-carried : tie.Need-enum-known-carried

@@ -3,10 +3,6 @@ use Rattle.locks.specs.State.{ranAfter}
 use borrow.Author.Needs.{needs}
 use Rattle.locks.proofs.coasting.ran_after.Statement.{statement}
 use Rattle.locks.proofs.coasting.ran_after.Tie as tie
-use Rattle.locks.proofs.coasting.ran_after.Reads as reads
-use Rattle.locks.proofs.coasting.ran_after.Lts as lts
-use Rattle.locks.proofs.coasting.ran_with.Reads as ran-with-reads
-use Rattle.locks.proofs.validity.voids.Reads as voids-reads
 
 -- src/coasting.rt:49:9
 voids-requires : tie.Need-voids-requires

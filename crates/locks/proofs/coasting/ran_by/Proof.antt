@@ -1,9 +1,6 @@
 use borrow.Author.Needs.{needs}
 use Rattle.locks.proofs.coasting.ran_by.Statement.{statement}
 use Rattle.locks.proofs.coasting.ran_by.Tie as tie
-use Rattle.locks.proofs.coasting.ran_by.Reads as reads
-use Rattle.locks.proofs.coasting.ran_by.Lts as lts
-use Rattle.coast_down.proofs.run_passed.Reads as run-passed-reads
 
 -- src/coasting.rt:20:9
 run-passed-requires : tie.Need-run-passed-requires

@@ -1,9 +1,6 @@
 use borrow.Author.Needs.{needs}
 use Rattle.locks.proofs.coasting.ran_with.Statement.{statement}
 use Rattle.locks.proofs.coasting.ran_with.Tie as tie
-use Rattle.locks.proofs.coasting.ran_with.Reads as reads
-use Rattle.locks.proofs.coasting.ran_with.Lts as lts
-use Rattle.locks.proofs.coasting.ran_by.Reads as ran-by-reads
 
 -- src/coasting.rt:38:29
 enum-told : tie.Need-enum-told

@@ -1,9 +1,6 @@
 use borrow.Author.Needs.{needs}
 use Rattle.locks.proofs.events.contents_of.Statement.{statement}
 use Rattle.locks.proofs.events.contents_of.Tie as tie
-use Rattle.locks.proofs.events.contents_of.Reads as reads
-use Rattle.locks.proofs.events.contents_of.Lts as lts
-use Rattle.locks.proofs.events.service_event.Reads as service-event-reads
 
 -- src/events.rt:26:26
 enum-known-event : tie.Need-enum-known-event

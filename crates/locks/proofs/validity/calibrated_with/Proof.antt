@@ -2,10 +2,6 @@ use mathlib.Core.Path.{_∙_}
 use borrow.Author.Needs.{needs}
 use Rattle.locks.proofs.validity.calibrated_with.Statement.{statement}
 use Rattle.locks.proofs.validity.calibrated_with.Tie as tie
-use Rattle.locks.proofs.validity.calibrated_with.Reads as reads
-use Rattle.locks.proofs.validity.calibrated_with.Lts as lts
-use Rattle.locks.proofs.validity.calibrated_by.Reads as calibrated-by-reads
-use Rattle.locks.proofs.validity.passed.Reads as passed-reads
 
 -- src/validity.rt:76:29
 enum-told : tie.Need-enum-told

@@ -1,12 +1,6 @@
 use borrow.Author.Needs.{needs}
 use Rattle.locks.proofs.validity.session_after.Statement.{statement}
 use Rattle.locks.proofs.validity.session_after.Tie as tie
-use Rattle.locks.proofs.validity.session_after.Reads as reads
-use Rattle.locks.proofs.validity.session_after.Lts as lts
-use Rattle.locks.proofs.coasting.ran_after.Reads as ran-after-reads
-use Rattle.locks.proofs.validity.calibrated_after.Reads as calibrated-after-reads
-use Rattle.locks.proofs.validity.signed_after.Reads as signed-after-reads
-use Rattle.locks.proofs.validity.warm_after.Reads as warm-after-reads
 
 -- src/validity.rt:133:15
 warm-after-requires : tie.Need-warm-after-requires

@@ -1,10 +1,6 @@
 use borrow.Author.Needs.{needs}
 use Rattle.locks.proofs.validity.uncalibrated.Statement.{statement}
 use Rattle.locks.proofs.validity.uncalibrated.Tie as tie
-use Rattle.locks.proofs.validity.uncalibrated.Reads as reads
-use Rattle.locks.proofs.validity.uncalibrated.Lts as lts
-use Rattle.locks.proofs.coasting.uncoasted.Reads as uncoasted-reads
-use Rattle.locks.proofs.validity.calibration_old.Reads as calibration-old-reads
 
 -- src/validity.rt:162:5
 calibration-old-requires : tie.Need-calibration-old-requires
