@@ -126,7 +126,8 @@ fn outside_test(kind: u8) -> bool
 }
 
 // One event: its answer and the next bench. 11, 12 or 13, then 4, 5, 15, 8, 16 or 17, then 14; a refused event gives back the same bench.
-// Ruled out: a refused event that moves the clock, and a start told of its lock before its settings are looked at.
+// Ruled out: a refused event that moves the clock, a start told of its lock before its settings are looked at, and 17 for a coast-down run
+// whose inertia is unfit too.
 pub fn step(bench: Bench, event: Event) -> Handled
     ensures { λ r. ⌜ (r ≡ step bench event) × BackIfRefused bench r ⌝ }
 {

@@ -183,7 +183,7 @@ pub fn fresh_locks() -> Locks
 }
 
 // After an accepted event, but for its verdict.
-// Ruled out: a calibration that outlives a clock setting, and wrong tries cleared at power-on.
+// Ruled out: a calibration or a coast-down run that outlives a clock setting, and wrong tries cleared at power-on.
 pub fn locks_after(k: Locks, event: Event) -> Locks
     ensures { λ r. ⌜ r ≡ locksAfter k event ⌝ }
 {
