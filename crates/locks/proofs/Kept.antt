@@ -32,7 +32,7 @@ use Rattle.locks.specs.declared.Locks.{Locks}
 use Rattle.locks.specs.declared.Event.{Event}
 use Rattle.locks.specs.Events.{kindOf, clockOf, serviceIn, calibrationWith, calibrationIn, tryWith, tryIn, runWith, sameSpeeds, ofSpeeds, runAt, passed, Calibrating}
 use Rattle.locks.specs.Accepted.{Accepted, accepted, isKind, since, any, orElse, latestOf}
-use Rattle.locks.specs.Locks.{voiding, renews, notWarm, activeClock, overdue, inactive, expired, noneValid, latestCalibration, latestRun, nonePassed, notCoasted, notCalibrated, noneGood, latestTry, notSignedIn, isWrong, rowEnds, rowEnd, wrongTries, wrongRow, passwordLock, authorityLock, withVerdict, verdictsIn, unsentIn, unsentLock, lockOf}
+use Rattle.locks.specs.Locks.{voiding, renews, notWarm, activeClock, overdue, inactive, expired, noneValid, latestCalibration, latestRun, somePassed, notCoasted, notCalibrated, noneGood, latestTry, notSignedIn, isWrong, rowEnds, rowEnd, wrongTries, wrongRow, passwordLock, authorityLock, withVerdict, verdictsIn, unsentIn, unsentLock, lockOf}
 use Rattle.locks.specs.State.{warmAfter, calibratedBy, calibratedWith, calibratedAfter, noRuns, ranBy, ranWith, ranAfter, signedBy, signedWith, signedAfter, oneWrong, wrongAfter, freshLocks, activeAfter, securityAfter, unsentAfter, sessionAfter, locksAfter, verdictCounted, calibrationOld, idle, signInOver, lockNumber}
 
 unfoldable pub calibratedOf : Option Calibrating → Calibrated
@@ -43,13 +43,8 @@ unfoldable pub signInOf : Option Tried → SignIn
 signInOf none = Out
 signInOf (some x) = signedBy x
 
--- A run that passed.
-unfoldable pub coastedOf : Option Run → Bool
-coastedOf none = false
-coastedOf (some run) = runPassed run
-
 abbrev pub rollersOf : List Accepted → Rollers
-rollersOf l = record { faster = coastedOf (latestRun Faster l); slower = coastedOf (latestRun Slower l) }
+rollersOf l = record { faster = somePassed (latestRun Faster l); slower = somePassed (latestRun Slower l) }
 
 unfoldable pub activityOf : Option ℕ → Activity
 activityOf none = Never
@@ -76,7 +71,7 @@ locksOf l = record {
 }
 
 pub fresh-of : locksOf [] ≡ freshLocks
-unfolding locksOf since any latestOf latestCalibration latestRun latestTry wrongTries wrongRow passwordLock authorityLock verdictsIn unsentIn calibratedOf coastedOf signInOf activityOf
+unfolding locksOf since any latestOf latestCalibration latestRun latestTry wrongTries wrongRow passwordLock authorityLock verdictsIn unsentIn calibratedOf somePassed signInOf activityOf
 fresh-of = refl
 
 -- What is read from a list since an event, with one accepted event more.
@@ -144,11 +139,11 @@ ran-with :
     (x : Service) (f s : Option Run) (b : Bool) →
     _≡_ {A = Rollers}
     (record {
-      faster = coastedOf (pick b none (orElse (ofSpeeds Faster (runWith x)) f));
-      slower = coastedOf (pick b none (orElse (ofSpeeds Slower (runWith x)) s));
+      faster = somePassed (pick b none (orElse (ofSpeeds Faster (runWith x)) f));
+      slower = somePassed (pick b none (orElse (ofSpeeds Slower (runWith x)) s));
     })
-    (pick b noRuns (ranWith x (record { faster = coastedOf f; slower = coastedOf s })))
-unfolding orElse ofSpeeds coastedOf pick
+    (pick b noRuns (ranWith x (record { faster = somePassed f; slower = somePassed s })))
+unfolding orElse ofSpeeds somePassed pick
 ran-with x f s true = refl
 ran-with service.Nothing f s false = refl
 ran-with (service.NewClock new) f s false = refl
@@ -160,10 +155,10 @@ ran-with (service.Ran run) f s false = go (run .speeds)
         (v : SpeedRange) →
         _≡_ {A = Rollers}
         (record {
-          faster = coastedOf (orElse (pick (sameSpeeds Faster v) (some run) none) f);
-          slower = coastedOf (orElse (pick (sameSpeeds Slower v) (some run) none) s);
+          faster = somePassed (orElse (pick (sameSpeeds Faster v) (some run) none) f);
+          slower = somePassed (orElse (pick (sameSpeeds Slower v) (some run) none) s);
         })
-        (ranBy v (runPassed run) (record { faster = coastedOf f; slower = coastedOf s }))
+        (ranBy v (runPassed run) (record { faster = somePassed f; slower = somePassed s }))
     go Faster = refl
     go Slower = refl
 
@@ -287,11 +282,6 @@ old-none validity now (some c) = go (c .outcome)
     go Passed = refl
     go Failed = refl
 
-not-coasted : (o : Option Run) → not (coastedOf o) ≡ nonePassed o
-unfolding coastedOf nonePassed
-not-coasted none = refl
-not-coasted (some run) = refl
-
 over-none : (now : ℕ) (o : Option Tried) → signInOver now (signInOf o) ≡ noneGood now o
 unfolding signInOf noneGood
 over-none now none = refl
@@ -311,8 +301,6 @@ lock-number validity limit now l =
     rw (
       idle-none now (latestOf activeClock l),
       old-none validity now (latestCalibration l),
-      not-coasted (latestRun Faster l),
-      not-coasted (latestRun Slower l),
       over-none now (latestTry l),
     )
 

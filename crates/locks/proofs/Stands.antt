@@ -22,7 +22,7 @@ use Rattle.locks.specs.declared.Event.{Event}
 use Rattle.locks.specs.declared.Event.the-variants.{PowerOn, ClockSetting, WarmUp, Calibration, Try, AuthorityLock, AuthorityUnlock, Upload, Start, Second, Stop, CoastDown}
 use Rattle.locks.specs.Events.{kindOf, clockOf, serviceIn, calibrationIn, tryIn, runIn, sameSpeeds, ofSpeeds, runAt, Calibrating}
 use Rattle.locks.specs.Accepted.{Accepted, isKind, since, any, orElse, latestOf}
-use Rattle.locks.specs.Locks.{voids, voiding, renews, notWarm, activeClock, overdue, inactive, expired, noneValid, latestCalibration, latestRun, nonePassed, notCoasted, notCalibrated, noneGood, latestTry, notSignedIn, isWrong, endsRow, rowEnd, wrongTries, wrongRow, passwordLock, authorityLock, verdictsIn, unsentIn, unsentLock}
+use Rattle.locks.specs.Locks.{voids, voiding, renews, notWarm, activeClock, overdue, inactive, expired, noneValid, latestCalibration, latestRun, somePassed, notCoasted, notCalibrated, noneGood, latestTry, notSignedIn, isWrong, endsRow, rowEnd, wrongTries, wrongRow, passwordLock, authorityLock, verdictsIn, unsentIn, unsentLock}
 use Rattle.locks.specs.Plain.{IsKind, Voids, NoneIs, Has, NotWarm, Active, ActiveBefore, Inactive, PassedWithin, RunOf, PassedRun, NoneCalibrated, NotCoasted, NotCalibrated, GoodWithin, NotSignedIn, WrongTry, GoodTry, Unlocks, EndsRow, WrongInRow, PasswordLocked, AuthorityLocked, Uploads, Unsent}
 use Rattle.locks.specs.Claims.{LockClaims}
 use Rattle.locks.proofs.Kept.{any-since, latest-since, wrong-since}
@@ -259,12 +259,9 @@ module _ (speeds : SpeedRange) where
   isRun none = false
   isRun (some run) = true
 
-  ran : Option Run → Bool
-  ran o = not (nonePassed o)
-
-  none-ran : ran none ≡ false
-  unfolding ran nonePassed
-  none-ran = refl
+  none-passed : somePassed none ≡ false
+  unfolding somePassed
+  none-passed = refl
 
   same-speeds : (v : SpeedRange) → (sameSpeeds speeds v ≡ true) ↔ (v ≡ speeds)
   same-speeds v = go speeds v
@@ -307,23 +304,19 @@ module _ (speeds : SpeedRange) where
       go (CoastDown _ _) (coasts clock run) = picked run (sameSpeeds speeds (run .speeds))
       go e (other _ x) = rw (x .noRun) refl
 
-  ran-exactly : (a : Accepted) → (not (voiding a) && ran (runAt speeds (a .event)) ≡ true) ↔ PassedRun speeds a
-  unfolding ran nonePassed ofSpeeds pick
+  ran-exactly : (a : Accepted) → (not (voiding a) && somePassed (runAt speeds (a .event)) ≡ true) ↔ PassedRun speeds a
+  unfolding somePassed ofSpeeds pick
   ran-exactly a = ((λ h. found (a .event) refl (view (a .event)) h), back)
     where
-      both : (run : Run) (b : Bool) → ran (pick b (some run) none) ≡ true → (b ≡ true) × (runPassed run ≡ true)
-      both run true h = (refl, twice (runPassed run) h)
-        where
-          twice : (c : Bool) → not (not c) ≡ true → c ≡ true
-          twice true h = refl
-          twice false h = h
+      both : (run : Run) (b : Bool) → somePassed (pick b (some run) none) ≡ true → (b ≡ true) × (runPassed run ≡ true)
+      both run true h = (refl, h)
       both run false h = absurd (false≢true h)
 
       found :
           (e : Event) →
           a .event ≡ e →
           View e →
-          not (voids (kindOf e)) && ran (runAt speeds e) ≡ true →
+          not (voids (kindOf e)) && somePassed (runAt speeds e) ≡ true →
           PassedRun speeds a
       found (Calibration _ _) s (calibrates clock outcome) h = absurd (false≢true h)
       found (Try _ _) s (tries clock outcome) h = absurd (false≢true h)
@@ -331,16 +324,16 @@ module _ (speeds : SpeedRange) where
           let b = both run (sameSpeeds speeds (run .speeds)) h in
           record { of = record { clock = clock; run = run; ran = s; same = same-speeds (run .speeds) .0 (b .0) }; passed = b .1 }
       found e s (other _ x) h =
-          absurd (false≢true (sym (not-and-none (voids (kindOf e))) ∙ sym (ap (λ o. not (voids (kindOf e)) && ran (ofSpeeds speeds o)) (x .noRun)) ∙ h))
+          absurd (false≢true (sym (not-and-none (voids (kindOf e))) ∙ sym (ap (λ o. not (voids (kindOf e)) && somePassed (ofSpeeds speeds o)) (x .noRun)) ∙ h))
 
-      back : PassedRun speeds a → not (voids (kindOf (a .event))) && ran (runAt speeds (a .event)) ≡ true
+      back : PassedRun speeds a → not (voids (kindOf (a .event))) && somePassed (runAt speeds (a .event)) ≡ true
       back x = rw (x .of .ran, same-speeds (x .of .run .speeds) .1 (x .of .same), x .passed)
 
-  coasted : (l : List Accepted) → (nonePassed (latestRun speeds l) ≡ true) ↔ NotCoasted speeds l
-  unfolding ran latestRun
+  coasted : (l : List Accepted) → (not (somePassed (latestRun speeds l)) ≡ true) ↔ NotCoasted speeds l
+  unfolding latestRun
   coasted l =
-      lifted-exactly _
-      (latest-exactly ran none-ran (λ a. isRun (runAt speeds (a .event))) (RunOf speeds) (runAt speeds) (PassedRun speeds) of-run run-kinded ran-exactly l)
+      not-exactly _
+      (latest-exactly somePassed none-passed (λ a. isRun (runAt speeds (a .event))) (RunOf speeds) (runAt speeds) (PassedRun speeds) of-run run-kinded ran-exactly l)
 
 -- Lock 3.
 calibrated : (validity now : ℕ) (l : List Accepted) → (notCalibrated validity now l ≡ true) ↔ NotCalibrated validity now l

@@ -69,14 +69,14 @@ latestCalibration l = latestOf calibrationIn (since voiding l)
 unfoldable pub latestRun : SpeedRange → List Accepted → Option Run
 latestRun speeds l = latestOf (runAt speeds) (since voiding l)
 
--- No run, or it did not pass.
-unfoldable pub nonePassed : Option Run → Bool
-nonePassed none = true
-nonePassed (some run) = not (runPassed run)
+-- There is a run, and it passed.
+unfoldable pub somePassed : Option Run → Bool
+somePassed none = false
+somePassed (some run) = runPassed run
 
 -- "Lock 3 now also holds unless the latest run of each speed passed and came after the latest power-on or clock setting"
 unfoldable pub notCoasted : List Accepted → Bool
-notCoasted l = nonePassed (latestRun Faster l) || nonePassed (latestRun Slower l)
+notCoasted l = not (somePassed (latestRun Faster l)) || not (somePassed (latestRun Slower l))
 
 -- Lock 3: "V still counts from the analyser's calibration".
 unfoldable pub notCalibrated : ℕ → ℕ → List Accepted → Bool

@@ -15,11 +15,11 @@ use Rattle.window.specs.Engine.{engineSum, engineMissing, engineSpeedOf}
 use Rattle.coast_down.specs.Passing.{runPassed}
 use Rattle.locks.specs.Events.{ofSpeeds}
 use Rattle.locks.specs.Accepted.{since, any, orElse, latestOf}
-use Rattle.locks.specs.Locks.{notWarm, activeClock, overdue, inactive, expired, noneValid, latestCalibration, latestRun, nonePassed, notCoasted, notCalibrated, noneGood, latestTry, notSignedIn, wrongTries, wrongRow, passwordLock, authorityLock, withVerdict, verdictsIn, unsentIn, unsentLock, firstStanding, lockInOrder, lockOf}
+use Rattle.locks.specs.Locks.{notWarm, activeClock, overdue, inactive, expired, noneValid, latestCalibration, latestRun, somePassed, notCoasted, notCalibrated, noneGood, latestTry, notSignedIn, wrongTries, wrongRow, passwordLock, authorityLock, withVerdict, verdictsIn, unsentIn, unsentLock, firstStanding, lockInOrder, lockOf}
 use Rattle.worked.specs.Cases.{gases, wrongTries as triedWrong, Worked}
 
 pub worked : Worked
-unfolding ofBits ofFields odd pick readingOf accepted halfUp unitCount judgedOf keep secondFrom secondOf gases quotient.halfUp dcfOf kH inTolerance measuredOf engineSum engineMissing engineSpeedOf triedWrong runPassed ofSpeeds since any orElse latestOf notWarm activeClock overdue inactive expired noneValid latestCalibration latestRun nonePassed notCoasted notCalibrated noneGood latestTry notSignedIn wrongTries wrongRow passwordLock authorityLock withVerdict verdictsIn unsentIn unsentLock firstStanding lockInOrder lockOf
+unfolding ofBits ofFields odd pick readingOf accepted halfUp unitCount judgedOf keep secondFrom secondOf gases quotient.halfUp dcfOf kH inTolerance measuredOf engineSum engineMissing engineSpeedOf triedWrong runPassed ofSpeeds since any orElse latestOf notWarm activeClock overdue inactive expired noneValid latestCalibration latestRun somePassed notCoasted notCalibrated noneGood latestTry notSignedIn wrongTries wrongRow passwordLock authorityLock withVerdict verdictsIn unsentIn unsentLock firstStanding lockInOrder lockOf
 worked = record {
   coBits = refl;
   coNegative = refl;
