@@ -1,3 +1,4 @@
+pub mod Width
 pub mod Levels
 pub mod Bounds
 pub mod Present

@@ -1,5 +1,6 @@
 pub mod Channel
 pub mod Rounding
+pub mod Width
 pub mod Kind
 pub mod Units
 pub mod Fitness

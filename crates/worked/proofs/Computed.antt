@@ -55,4 +55,6 @@ worked = record {
   slowerLeast = refl;
   slowerMost = refl;
   slowerLong = refl;
+  greatestMet = refl;
+  coAllDigits = refl;
 }

@@ -1,11 +1,12 @@
 -- Document 01, "Worked by hand": the starred cases as one table. Each row sets what the definitions give against what document 01 writes.
--- At its end stand figures for document 02: A.1, the engine speed on the sheet, and A.2, coast-down runs.
+-- At its end stand figures for document 02: A.1, the engine speed on the sheet, A.2, coast-down runs, and A.3, the numbers of a rounding.
 use mathlib.Core.Path.{_≡_}
 use mathlib.Core.Bool.{Bool, true, false}
 use mathlib.Core.List.{List, [], _∷_}
 use mathlib.Core.Option.{none}
 use Prim.Native.Nat.{ℕ, zero, suc, _<_}
 use Rattle.refusal.specs.Table.{refusal}
+use Rattle.reading.specs.Width.{scaled, greatestProduct}
 use Rattle.reading.specs.Kind.{readingOf}
 use Rattle.reading.specs.Units.{secondOf}
 use Rattle.reading.specs.declared.Second.{Second}
@@ -113,7 +114,7 @@ engineless = engineKept 0 true
 abbrev pub coasts : ℕ → ℕ → SpeedRange → ℕ → Bool
 coasts inertia power speeds milliseconds = runPassed (runWith inertia power speeds milliseconds)
 
--- The starred cases of "Worked by hand", one field a case; then the figures for document 02's A.1 and A.2.
+-- The starred cases of "Worked by hand", one field a case; then the figures for document 02's A.1, A.2 and A.3.
 pub record Worked : Type 0 where
   -- CO bits 0x3F80A3D7: 100
   pub coBits : gases 0 0x3F80A3D7 ≡ Fit (counts 0 100)
@@ -164,3 +165,7 @@ pub record Worked : Type 0 where
   pub slowerLeast : coasts 1200 100 Slower 3445 ≡ true
   pub slowerMost : coasts 1200 100 Slower 3962 ≡ true
   pub slowerLong : coasts 1200 100 Slower 3963 ≡ false
+  -- Document 02, A.3, "A 24-bit significand times 100 is at most 1,677,721,500": it is met where all 24 digits are 1, as in CO
+  -- 1.9999999 (bits 0x3FFFFFFF), whose unit count is 200
+  pub greatestMet : scaled 0x3FFFFFFF 100 ≡ greatestProduct
+  pub coAllDigits : gases 0 0x3FFFFFFF ≡ Fit (counts 0 200)
