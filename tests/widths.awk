@@ -43,40 +43,57 @@ function look_type(t, what,    i) {
     for (i = 2; i <= kids[t]; i++) look_type(kid[t, i], what)
 }
 
-# List cells: 'lcons FIRST REST'.
-function each_type(list,    pair) {
+# The named types of a function, 'lcons (pair NAME FIELDS-OR-VARIANTS) REST'. A refusal's place is wider.
+function each_type(list,    named) {
     for (; head(list) == "lcons"; list = kid[list, 3]) {
-        pair = kid[list, 2]
-        if (text[kid[pair, 2]] != refusal) look_type(kid[pair, 3], text[kid[pair, 2]])
+        named = text[kid[kid[list, 2], 2]]
+        made_of[named] = kid[kid[kid[list, 2], 3], 2]
+        if (named != refusal) look_type(kid[kid[list, 2], 3], named)
     }
 }
 
-function each_local(list,    i, t) {
-    delete wide
-    delete type
+# The types of its locals: one that is a whole number may be wider, and is_wide tells it where it is used.
+function each_local(list,    i) {
+    delete local
     for (i = 0; head(list) == "lcons"; list = kid[list, 3]) {
-        t = kid[kid[list, 2], 2]
-        type[i] = type_of(t)
-        wide[i] = type[i] == "tyInt" && width(t) > most
-        if (!wide[i]) look_type(t, "a local")
+        local[i] = kid[kid[list, 2], 2]
+        if (head(local[i]) != "tyInt") look_type(local[i], "a local")
         i++
     }
 }
 
-# is_wide OPERAND: a literal, a local or a refusal's field of more bits. Places behind an address are looked at here as well.
-function is_wide(o,    place, local, way) {
+# nth LIST I: its entry, from 0 on.
+function nth(list, i) {
+    for (; i > 0; i--) list = kid[list, 3]
+    return kid[list, 2]
+}
+
+# type_at PLACE: the type of what is there; 0 of the number that tells which variant it is. A variant's fields count from 1.
+function type_at(place,    t, way, step, fields) {
+    t = local[text[kid[place, 2]]]
+    fields = 0
+    for (way = kid[place, 3]; head(way) == "lcons"; way = kid[way, 3]) {
+        step = kid[way, 2]
+        if (head(step) == "deref") t = kid[step, 2]
+        else if (head(step) == "variant") fields = nth(made_of[type_of(t)], text[kid[step, 2]])
+        else if (head(step) != "field") told("a step " head(step) ", which this check does not know")
+        else if (!fields) t = nth(made_of[type_of(t)], text[kid[step, 2]])
+        else {
+            t = text[kid[step, 2]] > 0 ? nth(fields, text[kid[step, 2]] - 1) : 0
+            fields = 0
+        }
+    }
+    return t
+}
+
+# is_wide OPERAND: a literal or what is at a place.
+function is_wide(o,    place) {
     if (head(o) == "int" || head(o) == "float") return text[kid[o, 2]] + 0 > most
     if (head(o) ~ /^(true|false|unit)$/) return 0
     place = head(o) == "place" ? o : kid[o, 2]
-    if (head(o) !~ /^(copy|move|place)$/ || head(place) != "place") {
-        told("an operand " head(o) ", which this check does not know")
-        return 0
-    }
-    local = text[kid[place, 2]]
-    way = kid[place, 3]
-    if (head(way) == "lnil") return wide[local]
-    for (; head(way) == "lcons"; way = kid[way, 3]) if (head(kid[way, 2]) == "deref") look_type(kid[kid[way, 2], 2], "a place in memory")
-    return type[local] == refusal
+    if (head(o) ~ /^(copy|move|place)$/ && head(place) == "place") return width(type_at(place)) > most
+    told("an operand " head(o) ", which this check does not know")
+    return 0
 }
 
 function none_wide(o, what) {
@@ -108,7 +125,7 @@ function look_value(v, to,    list) {
         look_op2(kid[v, 2], kid[v, 3], kid[v, 4])
     } else if (head(v) == "aggregate") {
         for (list = kid[v, 2]; head(list) == "lcons"; list = kid[list, 3])
-            if (type[text[kid[to, 2]]] != refusal) none_wide(kid[list, 2], "a wider number in a value that is no refusal")
+            if (type_of(type_at(to)) != refusal) none_wide(kid[list, 2], "a wider number in a value that is no refusal")
     } else if (head(v) == "addrOf") {
         none_wide(kid[v, 2], "the address of a wider number")
     } else told("a value " head(v) ", which this check does not know")
