@@ -188,6 +188,7 @@ pub fn check_samples(checks: &mut Checks) {
     let line = |name: &str| sample(name).map_or(String::new(), |bytes| rejudge_line(&bytes));
     let starts = |name: &str, want: &str| line(name).starts_with(want);
     checks.same("sample pass", starts("pass", "pass 1 25 16 0 "), true);
+    checks.same("sample dip", starts("dip", "pass 1 90 81 0 "), true);
     checks.same("sample fail2", starts("fail2", "fail 2 90 0 81 "), true);
     checks.same(
         "sample incomplete",
@@ -242,6 +243,8 @@ pub fn check_named(checks: &mut Checks) {
         ("engine_half_down", "open 1 13 4 0 121 121 25 3999"), ("engine_older", "open 1 14 3 0 121 121 25 "),
         ("engine_one_missing", "open 1 13 4 0 121 121 25 -"), ("engine_last_missing", "open 1 13 4 0 121 121 25 -"),
         ("engine_zero", "open 1 13 4 0 121 121 25 0"),
+        ("dip_eight", "pass 1 25 16 0 "), ("dip_nine", "pass 1 90 81 0 "), ("dip_eleventh", "pass 1 25 16 0 "),
+        ("dip_forgotten", "pass 1 25 16 0 "), ("slow_fall", "open 1 25 16 0 "),
     ];
     for name in RECORDS {
         let line = sample(name).map_or(String::new(), |bytes| rejudge_line(&bytes));

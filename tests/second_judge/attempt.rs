@@ -378,7 +378,7 @@ fn judge_run(car: &Vehicle, run: &[Measured]) -> Run {
 /// The last paragraph of step 4, on the t seconds of this run (t ≥ 10).
 fn ending(run: &[Measured], passing: usize, failing: usize) -> Option<End> {
     let t = run.len();
-    let steady = run[9].speed >= run[0].speed - 8;
+    let steady = run[..10].iter().all(|s| s.speed >= run[0].speed - 8);
     if t >= 25 && passing >= 15 && steady {
         return Some(End::Pass);
     }

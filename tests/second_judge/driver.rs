@@ -112,15 +112,22 @@ impl Driver {
             0 => s.clean(25),
             1 => s.dirty(90),
             2 if s.dice.percent(80) => s.inconclusive(s.noise > 2),
-            2 => s.falling(90, 9),
+            2 => some_dip(s, 90),
             3 => plan_clumsy(s),
             _ => s.close(90),
         }
     }
 }
 
+/// A dip at one of seconds 2 to 11, where a run begins here.
+fn some_dip(s: &mut Script, count: usize) {
+    let second = s.dice.within(2, 11) as usize;
+    let depth = s.dice.pick(&[8, 9]);
+    s.dip(second, depth, count);
+}
+
 fn plan_clumsy(s: &mut Script) {
-    match s.dice.below(7) {
+    match s.dice.below(8) {
         0 => s.out(3),
         1 => s.out(1),
         2 => {
@@ -129,6 +136,7 @@ fn plan_clumsy(s: &mut Script) {
         }
         3 => s.seconds(1, |w| w.over = 6),
         4 => s.seconds(1, |w| (w.units[4], w.units[6]) = (99, 50)),
+        5 => some_dip(s, 25),
         _ => {
             let count = s.dice.within(1, 20) as usize;
             s.clean(count);

@@ -148,6 +148,15 @@ impl Journal {
         self.play(&mut script);
     }
 
+    /// A test with a dip at second 6: of 9, and the pass comes at t = 90, or of 8, and it comes at t = 25.
+    pub fn dip(&mut self, depth: i64, count: usize) {
+        self.fresh();
+        let mut script = self.start();
+        script.settle();
+        script.dip(6, depth, count);
+        self.play(&mut script);
+    }
+
     /// Lock 2 at 1,801 s, and none at 1,800 s: runs do not renew it.
     pub fn idle_lock(&mut self) {
         for wait in [800, 801] {
@@ -424,5 +433,7 @@ pub fn scripted_events(v: u32, u: u16, dice: &mut Dice) -> Vec<(u32, Event)> {
     journal.near_the_end();
     journal.fail();
     journal.unsent_lock();
+    journal.dip(9, 90);
+    journal.dip(8, 25);
     journal.events
 }

@@ -4,9 +4,9 @@ use crate::bench::{calibration_lacks, run_lacks, since_power, Bench, Event};
 use crate::dice::{some_settings, Dice};
 use crate::driver::Driver;
 use crate::journal::scripted_events;
+use crate::make_records::REACHING_RECORDS;
 use crate::make_runs::{any_run, failed_run, passed_run};
 use crate::make_tests::{put_event, unfit_second, unfit_start};
-use crate::named_records::RECORDS;
 use crate::running::Running;
 use crate::scripted_tests::REACHING;
 use std::collections::VecDeque;
@@ -38,7 +38,7 @@ fn parameters(seed: u64, dice: &mut Dice) -> (u32, u16) {
 pub fn least() -> [(&'static str, usize); 3] {
     let events = scripted_events(1, MOST_SEEDED_U, &mut Dice(1)).len();
     [
-        ("records", RECORDS.len()),
+        ("records", REACHING_RECORDS),
         ("tests", REACHING),
         ("events", events),
     ]

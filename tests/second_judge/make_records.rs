@@ -8,7 +8,7 @@ use crate::numbers::OVER;
 use crate::record::Content;
 use crate::running::Running;
 use crate::script::{encode, Item, Script};
-use crate::scripted_tests::{scripted_gearbox, scripted_test, SCRIPTS};
+use crate::scripted_tests::{scripted_gearbox, scripted_test, FIRST_DIP, PAST_DIPS, SCRIPTS};
 use crate::vehicle::Vehicle;
 
 pub fn put_item(out: &mut Vec<u8>, record: &[u8]) {
@@ -318,6 +318,10 @@ fn after_verdict(way: usize, dice: &mut Dice) -> Content {
     content_of(&site, codes, &items, dice)
 }
 
+/// How many records reach everything: the named ones and those about dips.
+pub const REACHING_RECORDS: usize = RECORDS.len() + PAST_DIPS - FIRST_DIP;
+
+/// The named records first, then the scripted tests, those about dips before the others.
 pub fn make_records(seed: u64, count: usize) -> Vec<u8> {
     let mut dice = Dice(seed ^ 0x7265_636F);
     let mut out = Vec::new();
@@ -325,7 +329,7 @@ pub fn make_records(seed: u64, count: usize) -> Vec<u8> {
         let record = match i {
             _ if i < RECORDS.len() => small_record(RECORDS[i]).unwrap_or_default(),
             _ if i < RECORDS.len() + SCRIPTS => {
-                scripted_content(i - RECORDS.len(), &mut dice).bytes()
+                scripted_content(FIRST_DIP + i - RECORDS.len(), &mut dice).bytes()
             }
             _ if i % 4 == 3 => damaged_record(i / 4 % DAMAGES, &mut dice),
             _ if i % 16 == 2 => scripted_content(dice.below(1000) as usize, &mut dice).bytes(),

@@ -107,7 +107,7 @@ pub fn put_topic(
 }
 
 /// COUNT seeded readings and corrections behind their corners, and as many
-/// tests, at least those that reach everything and at most 96.
+/// tests, at least those that reach everything and at most 136: all that are scripted, and 48 driven ones.
 pub fn make_vectors(seed: u64, count: usize) -> Vec<u8> {
     let mut out = Vec::new();
     let mut test = None;
@@ -120,7 +120,7 @@ pub fn make_vectors(seed: u64, count: usize) -> Vec<u8> {
     put_topic(
         &mut out,
         3,
-        &make_tests(seed, count.clamp(REACHING, 96)),
+        &make_tests(seed, count.clamp(REACHING, 136)),
         |items| next_test_line(items, &mut test).is_some(),
     );
     out

@@ -21,8 +21,8 @@ pub fn listing(rows: usize) -> Content {
     }
 }
 
-/// Small records by name: each ends in another way, or has its engine speed for another reason.
-pub const RECORDS: [&str; 38] = [
+/// Small records by name: each ends in another way, or has its engine speed or its dip for another reason.
+pub const RECORDS: [&str; 43] = [
     "pass_rising",
     "pass_out",
     "pass_ninety",
@@ -61,6 +61,11 @@ pub const RECORDS: [&str; 38] = [
     "engine_one_missing",
     "engine_last_missing",
     "engine_zero",
+    "dip_eight",
+    "dip_nine",
+    "dip_eleventh",
+    "dip_forgotten",
+    "slow_fall",
 ];
 
 /// The records of the engine speed that have an automatic gearbox.
@@ -136,6 +141,12 @@ fn small_test(name: &str, s: &mut Script) {
         "open_restart" => { s.settle(); s.clean(12); s.out(3); s.clean(4) }
         "open_two" => s.to_mode_2(),
         "open_two_rest" => { s.to_mode_2(); s.settle(); s.clean(12); s.stop(2); s.idle(3, 9) }
+        "dip_eight" => { s.settle(); s.dip(6, 8, 25) }
+        "dip_nine" => { s.settle(); s.dip(6, 9, 90) }
+        "dip_eleventh" => { s.settle(); s.dip(11, 9, 25) }
+        "dip_forgotten" => { s.settle(); s.dip(6, 9, 12); s.out(3); s.clean(25) }
+        // Held back at t = 25, and left open there.
+        "slow_fall" => { s.settle(); s.slow_fall(25) }
         _ => { s.to_mode_2(); s.settle(); s.clean(12); s.out(3); s.clean(4) }
     }
 }
@@ -219,6 +230,11 @@ pub fn sample(name: &str) -> Option<Vec<u8>> {
         // The longest record, and one byte more.
         "too_long" => return Some([sized_content(30, 500, 255).bytes(), vec![0]].concat()),
         "pass" | "unfit" => script.pass(),
+        // As "pass", but for second 6: the pass comes at t = 90.
+        "dip" => {
+            script.settle();
+            script.speeds(90, |i| if i == 6 { -9 } else { 0 });
+        }
         "fail2" => {
             script.to_mode_2();
             script.settle();

@@ -4,6 +4,7 @@ use crate::asserts_bench::{after_tries, check_bench, check_locks, check_tries, l
 use crate::asserts_coast_down::{
     check_run_ages, check_run_ends, check_run_items, check_run_locks, check_run_refusals,
 };
+use crate::asserts_dips::check_dips;
 use crate::asserts_engine::{check_engines, check_gathered, check_means};
 use crate::asserts_numbers::{check_corrections, check_readings, check_rounding, check_windows};
 use crate::asserts_record::{
@@ -192,6 +193,7 @@ pub fn selftest() -> bool {
     check_kept(&mut checks);
     check_ended(&mut checks);
     check_engines(&mut checks);
+    check_dips(&mut checks);
     check_records(&mut checks);
     check_writer(&mut checks);
     check_round_trips(&mut checks);

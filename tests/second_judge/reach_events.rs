@@ -1,11 +1,16 @@
 //! Reach: lists of events.
 
-use crate::bench::{after_last, holds, since_power, wrong_row, Accepted, Bench, Event, Kept};
+use crate::bench::{
+    after_last, holds, since_power, step_of, wrong_row, Accepted, Bench, Event, Kept,
+};
 use crate::items::Items;
 use crate::make_tests::kind_of;
 use crate::numbers::Refusal;
 use crate::reach::{names, texts, Reach};
+use crate::reach_dips::{dips_in_events, Runs};
 use crate::reach_runs::{reach_run_refused, reach_start, run_names};
+use crate::reach_tests::units_of;
+use crate::running::Running;
 
 /// What of a list of events must be looked at with those before it.
 #[derive(Default)]
@@ -60,7 +65,7 @@ const SPECIAL: [&str; 23] = [
     "clock set back",
 ];
 
-pub fn reach_events(data: &[u8]) -> Reach {
+fn required_of_events() -> Vec<String> {
     let mut required = texts(&["pass", "fail", "incomplete", "start admitted"]);
     required.extend(names("lock ", 1..=7));
     required.extend(names("refused 4 ", 1..=7));
@@ -71,23 +76,29 @@ pub fn reach_events(data: &[u8]) -> Reach {
     required.extend(names("refused 12 kind ", 12..=12));
     required.extend(texts(&SPECIAL));
     required.extend(run_names());
-    let mut reach = Reach::new(required);
+    required.extend(dips_in_events());
+    required
+}
+
+pub fn reach_events(data: &[u8]) -> Reach {
+    let mut reach = Reach::new(required_of_events());
     let mut items = Items { data };
     let (v, u) = (items.u32().unwrap_or(0), items.u16().unwrap_or(0));
     let Ok(mut bench) = Bench::new(v, u) else {
         reach.count("refused 15 0");
         return reach;
     };
-    let mut trail = Trail::default();
+    let (mut trail, mut runs) = (Trail::default(), Runs::default());
     while let Some((clock, event)) = items.event() {
         let before = bench.last;
         let quiet = quiet_name(&bench);
-        let running = bench.test.is_some();
+        let running = bench.test.clone();
         match bench.take(clock, &event) {
             Err(refusal) => trail.refused(&mut reach, &bench, clock, &event, refusal),
             Ok(verdict) => {
                 verdict.map(|verdict| reach.count(verdict.word.text()));
-                reach_accepted(&mut reach, &event, running, clock);
+                reach_accepted(&mut reach, &event, running.is_some(), clock);
+                running.map(|test| reach_dips(&mut reach, &mut runs, test, &event));
                 trail.accepted(&mut reach, &bench, clock, &event);
                 trail.quiet_stop = match event {
                     Event::Stop(_) if clock > before => quiet.map(|name| (before, name)),
@@ -97,6 +108,15 @@ pub fn reach_events(data: &[u8]) -> Reach {
         }
     }
     reach
+}
+
+/// What an accepted second or stop shows of the dips of the test it came to.
+fn reach_dips(reach: &mut Reach, runs: &mut Runs, mut test: Running, event: &Event) {
+    let speed = units_of(event, 1, test.car.automatic);
+    if let Ok(step) = step_of(&mut test, event) {
+        let shown = runs.step(speed, &step);
+        shown.into_iter().for_each(|name| reach.count(name));
+    }
 }
 
 /// Where a stop would change only the clock.

@@ -4,11 +4,12 @@ use crate::attempt::{Did, Stage};
 use crate::items::Items;
 use crate::numbers::Second;
 use crate::reach::{names, texts, Reach};
+use crate::reach_dips::{dips_in_records, Runs};
 use crate::reach_engines::{Engines, ON_THE_SHEET};
 use crate::record::{read_record, u16_at, Record};
 use crate::rejudging::rejudge;
 use crate::running::{Running, Step};
-use crate::test::{Judged, Next, Word};
+use crate::test::{Judged, Word};
 
 /// What a record's rows and stops do, each with its second, up to the first unfit row.
 fn record_steps(record: &Record) -> Vec<(Option<Second>, Step)> {
@@ -27,27 +28,6 @@ fn record_steps(record: &Record) -> Vec<(Option<Second>, Step)> {
     }
     steps
 }
-
-/// The speeds of measured seconds 1 and 10, as the steps go by.
-#[derive(Default)]
-pub struct Speeds {
-    pub first: i64,
-    pub tenth: i64,
-}
-
-impl Speeds {
-    /// True on a pass before t = 90 with second 10 more than 8 above second 1.
-    pub fn rising_pass(&mut self, speed: Option<i64>, step: &Step) -> bool {
-        match (step.did, step.state.t, speed) {
-            (Did::Measured, 1, Some(speed)) => self.first = speed,
-            (Did::Measured, 10, Some(speed)) => self.tenth = speed,
-            _ => {}
-        }
-        step.next == Next::Ends(Word::Pass) && step.state.t < 90 && self.tenth > self.first + 8
-    }
-}
-
-pub const RISING: &str = "pass with second 10 more than 8 above second 1";
 
 const LEFT_OVER: &str = "refused 6 with a byte left over";
 
@@ -85,11 +65,12 @@ fn bytes_left(bytes: &[u8]) -> bool {
 pub fn reach_records(data: &[u8]) -> Reach {
     let mut required = texts(&["open 1", "open 2", "pass 1", "pass 2", "fail 2"]);
     required.extend(texts(&["incomplete 1", "incomplete 2"]));
-    required.extend(texts(&["window printed", "window none", RISING, LEFT_OVER]));
+    required.extend(texts(&["window printed", "window none", LEFT_OVER]));
     required.extend(names("open in rest, no window, mode ", 1..=2));
     required.extend(names("open after a restart, no window, mode ", 1..=2));
     required.extend(texts(&["open in mode 2, no window"]));
     required.extend(texts(&ON_THE_SHEET));
+    required.extend(dips_in_records());
     required.extend(names("void ", 1..=9));
     required.extend(names("refused ", 1..=9));
     let mut reach = Reach::new(required);
@@ -126,11 +107,10 @@ fn reach_judged(reach: &mut Reach, record: &[u8], judged: &Judged) {
     if judged.word.is_none() {
         open_without_window(&steps).map(|what| reach.count(what));
     }
-    let (mut speeds, mut engines) = (Speeds::default(), Engines::default());
+    let (mut runs, mut engines) = (Runs::default(), Engines::default());
     for (second, step) in &steps {
-        if speeds.rising_pass(second.map(|s| s.speed), step) {
-            reach.count(RISING);
-        }
+        let shown = runs.step(second.map(|s| s.speed), step);
+        shown.into_iter().for_each(|name| reach.count(name));
         engines.step(second.and_then(|s| s.engine), step);
     }
     let sheet = engines.names(record.settings[3] == 2);

@@ -6,8 +6,8 @@ use crate::items::Items;
 use crate::modes::{did_text, next_text, test_item};
 use crate::numbers::{judge_reading, judge_readings, Reading};
 use crate::reach::{names, texts, Reach};
+use crate::reach_dips::{dips_in_tests, Runs};
 use crate::reach_engines::{Engines, IN_A_TEST, ON_THE_SHEET};
-use crate::reach_records::{Speeds, RISING};
 use crate::record::cause_fits;
 use crate::running::{Running, Step};
 use crate::test::Next;
@@ -16,7 +16,7 @@ pub fn reach_tests(data: &[u8]) -> Reach {
     let mut reach = Reach::new(required_of_tests());
     let mut items = Items { data };
     let mut test: Option<Running> = None;
-    let (mut speeds, mut engines) = (Speeds::default(), Engines::default());
+    let (mut runs, mut engines) = (Runs::default(), Engines::default());
     while let Some(event) = items.u8().and_then(|kind| items.fields(kind)) {
         let mode = test.as_ref().map_or(0, |t| t.standing.mode);
         let c = test.as_ref().map_or(0, |t| t.seconds.len() + 1);
@@ -32,9 +32,8 @@ pub fn reach_tests(data: &[u8]) -> Reach {
                 reach.count(format!("{did} {next} in mode {mode}"));
                 reach.count(did);
                 reach.count(next);
-                if speeds.rising_pass(units_of(&event, 1, automatic), &step) {
-                    reach.count(format!("{RISING} in mode {mode}"));
-                }
+                let shown = runs.step(units_of(&event, 1, automatic), &step);
+                shown.into_iter().for_each(|name| reach.count(name));
                 if step.did == Did::Void(7) && c == 145 {
                     reach.count(format!("void-7 at c = 145 in mode {mode}"));
                 }
@@ -51,7 +50,7 @@ pub fn reach_tests(data: &[u8]) -> Reach {
 }
 
 /// The units of a code in a second.
-fn units_of(event: &Event, code: u8, automatic: bool) -> Option<i64> {
+pub fn units_of(event: &Event, code: u8, automatic: bool) -> Option<i64> {
     match event {
         Event::Second(bits) => match judge_reading(code, automatic, bits[code as usize - 1]) {
             Some(Reading::Units(units)) => Some(units),
@@ -110,7 +109,7 @@ fn required_of_tests() -> Vec<String> {
     required.extend(texts(&KEPT));
     required.extend(texts(&ON_THE_SHEET));
     required.extend(texts(&IN_A_TEST));
-    required.extend(names(&format!("{RISING} in mode "), 1..=2));
+    required.extend(dips_in_tests());
     required.extend(names("void-7 at c = 145 in mode ", 1..=2));
     for mode in 1..=2 {
         for void in 1..=9 {

@@ -65,6 +65,15 @@ impl Item {
     }
 }
 
+/// How far second `i` is from the target where one second is `depth` below second 1: half of it each.
+fn off_by_dip(i: usize, second: usize, depth: i64) -> i64 {
+    match i {
+        1 => depth / 2,
+        _ if i == second => depth / 2 - depth,
+        _ => 0,
+    }
+}
+
 /// Writes a test piece by piece.
 pub struct Script {
     pub car: Vehicle,
@@ -337,27 +346,33 @@ impl Script {
         self.items.push(Item::Stop(cause));
     }
 
+    /// Clean seconds off the target by what `off` says of each, from second 1 on.
+    pub fn speeds(&mut self, count: usize, off: impl Fn(usize) -> i64) {
+        for i in 1..=count {
+            self.seconds(1, |w| w.units[0] += off(i));
+        }
+    }
+
+    /// A run with one second `depth` below second 1.
+    pub fn dip(&mut self, second: usize, depth: i64, count: usize) {
+        self.speeds(count, |i| off_by_dip(i, second, depth));
+    }
+
     /// Seconds 1 and 10 differ by `fall`, the rest clean.
     pub fn falling(&mut self, count: usize, fall: i64) {
-        for i in 0..count {
-            let change = match i {
-                0 => fall / 2,
-                9 => fall / 2 - fall,
-                _ => 0,
-            };
-            self.seconds(1, |w| w.units[0] += change);
-        }
+        self.dip(10, fall, count);
+    }
+
+    /// A run that falls by 1 a second, to 9 below second 1 at second 10.
+    pub fn slow_fall(&mut self, count: usize) {
+        self.speeds(count, |i| if i <= 10 { 5 - i as i64 } else { 0 });
     }
 
     /// As `falling`, 90 seconds with 15 passing windows, the last of them at t = 90.
     pub fn late(&mut self, fall: i64) {
-        for i in 0..90 {
-            let change = match i {
-                0 => fall / 2,
-                9 => fall / 2 - fall,
-                _ => 0,
-            };
-            let hc = if i < 66 { 9000 } else { 100 };
+        for i in 1..=90 {
+            let change = off_by_dip(i, 10, fall);
+            let hc = if i <= 66 { 9000 } else { 100 };
             self.seconds(1, |w| (w.units[0], w.units[3]) = (w.units[0] + change, hc));
         }
     }

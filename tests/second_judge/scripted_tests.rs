@@ -1,6 +1,7 @@
 //! Making input: scripted tests, each for a reason.
 
 use crate::script::{Item, Script};
+use crate::scripted_dips::{DIPS, MORE_DIPS};
 use crate::vehicle::Vehicle;
 
 /// Scripted tests from the first second of the test. Two voids at most come before the last attempt.
@@ -118,10 +119,19 @@ const FROM_MODE_2: [fn(&mut Script); 8] = [
     },
 ];
 
-/// How many scripted tests reach everything, and how many there are with the first ones in mode 2 too.
-pub const REACHING: usize = FROM_START.len() + FROM_MODE_2.len();
+/// The first of FROM_MODE_2.
+const FIRST_IN_MODE_2: usize = FROM_START.len();
 
-pub const SCRIPTS: usize = REACHING + FROM_START.len();
+/// Where the dips begin, and where all of them are past.
+pub const FIRST_DIP: usize = FIRST_IN_MODE_2 + FROM_MODE_2.len();
+
+pub const PAST_DIPS: usize = REACHING + MORE_DIPS.len();
+
+/// How many scripted tests reach everything that tests must, and how many there are with the
+/// first ones in mode 2 too.
+pub const REACHING: usize = FIRST_DIP + DIPS.len();
+
+pub const SCRIPTS: usize = PAST_DIPS + FROM_START.len();
 
 /// The gearbox for a scripted test: every third is automatic.
 pub fn scripted_gearbox(index: usize) -> u16 {
@@ -136,12 +146,16 @@ pub fn scripted_gearbox(index: usize) -> u16 {
 pub fn scripted_test(car: Vehicle, seed: u64, index: usize) -> Option<Vec<Item>> {
     let mut script = Script::new(car, seed.wrapping_mul(1000).wrapping_add(index as u64));
     script.vary();
-    if index >= FROM_START.len() {
-        script.to_mode_2_by(index - FROM_START.len());
+    // Those about dips go to mode 2 by themselves.
+    match index {
+        FIRST_IN_MODE_2..FIRST_DIP | PAST_DIPS.. => script.to_mode_2_by(index - FIRST_IN_MODE_2),
+        _ => {}
     }
     let write = FROM_START
         .iter()
         .chain(&FROM_MODE_2)
+        .chain(&DIPS)
+        .chain(&MORE_DIPS)
         .chain(&FROM_START)
         .nth(index)?;
     write(&mut script);

@@ -38,10 +38,12 @@ mod make_runs;
 mod make_tests;
 mod named_records;
 mod script;
+mod scripted_dips;
 mod scripted_tests;
 
 // What an input reaches.
 mod reach;
+mod reach_dips;
 mod reach_engines;
 mod reach_events;
 mod reach_records;
@@ -51,6 +53,7 @@ mod reach_tests;
 // Own asserts.
 mod asserts_bench;
 mod asserts_coast_down;
+mod asserts_dips;
 mod asserts_engine;
 mod asserts_numbers;
 mod asserts_record;
