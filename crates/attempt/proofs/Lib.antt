@@ -3,3 +3,5 @@ pub mod Most
 pub mod Screens
 pub mod Ruled
 pub mod Sums
+pub mod Speeds
+pub mod Runs

@@ -10,7 +10,7 @@ use Rattle.attempt.specs.declared.WindowCounts.{WindowCounts}
 use Rattle.attempt.specs.declared.Ending.{Ending}
 use Rattle.attempt.specs.declared.Ending.the-variants.{NotYet, Passes, ModeEnds, Inconclusive}
 use Rattle.attempt.specs.Ending.{atNinety, earlyPass, endingRule}
-use Rattle.attempt.specs.Laws.{HeldExactly, RuleSays, RuledExactly}
+use Rattle.attempt.specs.Laws.{RuleSays, RuledExactly}
 use Rattle.attempt.proofs.Tests.{nonsense, and-left, and-right}
 
 -- An early pass meets its three tests.
@@ -63,6 +63,3 @@ ruled-exactly t k held =
     (λ ninety few enough. (ninety, few, enough))
     (λ ninety few less. (ninety, few, less))
     (λ ninety early'. (ninety, early'))
-
-pub held-exactly : HeldExactly
-held-exactly first tenth = (λ e. leb-true _ _ e, λ h. le-leb _ _ h)

@@ -1,7 +1,8 @@
 -- What is claimed of the rules of an attempt, in numbers. Each claim is carried by the contract of the function that it is about.
-use Prim.Native.Nat.{ℕ, _+_, _≤_, _<_}
+use Prim.Native.Nat.{ℕ, _≤_, _<_}
 use mathlib.Core.Bool.{Bool, true, false}
 use mathlib.Core.Path.{_≡_}
+use mathlib.Core.List.{List}
 use mathlib.Core.Logic.{_⊎_, _↔_}
 use Rattle.reading.specs.declared.Second.{Second}
 use Rattle.correction.specs.Dilution.{dilutionSum}
@@ -16,7 +17,9 @@ use Rattle.attempt.specs.declared.Ending.the-variants.{NotYet, Passes, M
 use Rattle.attempt.specs.Screening.{diluted, Diluted, screened}
 use Rattle.attempt.specs.Ready.{ready}
 use Rattle.attempt.specs.Settling.{secondOne, secondTwo}
-use Rattle.attempt.specs.Ending.{speedHeld, endingRule}
+use Rattle.attempt.specs.Ending.{endingRule}
+use Rattle.attempt.specs.Speeds.{speedHeld, SpeedHeld}
+use Rattle.attempt.specs.Runs.{Taken, speedsIn, countsAfter}
 
 -- What each outcome of steps 2 and 3 says of c and the second, at every stage: a second that is not void and does not wait is neither
 -- over range in codes 4 to 7 nor diluted, and at c = 0 its speed is above 10.
@@ -55,9 +58,13 @@ NextMost =
     (v : Vehicle) (s : Second) (k : SettlingCounts) →
     k .seconds ≤ 14 → k .ready ≤ 10 → k .row ≤ 1 → k .all ≤ 4 → Settled 15 (secondTwo v s k)
 
--- "second 10's speed is at most 8 below second 1's"
+-- "each of those ten speeds .. at most 0.8 km/h below second 1's"
 abbrev pub HeldExactly : Type 0
-HeldExactly = (first tenth : ℕ) → (speedHeld first tenth ≡ true) ↔ (first ≤ tenth + 8)
+HeldExactly = (speeds : List ℕ) → (speedHeld speeds ≡ true) ↔ SpeedHeld speeds
+
+-- What the counts keep of it is so of the seconds themselves, for every list of seconds and windows: of those of this t, so that a restart forgets a dip.
+abbrev pub HeldTold : Type 0
+HeldTold = (l : List Taken) → (countsAfter l .held ≡ true) ↔ SpeedHeld (speedsIn l)
 
 -- What each outcome of the ending rule says of t, the windows and whether the speed held.
 abbrev pub RuleSays : ℕ → WindowCounts → Bool → Ending → Type 0

@@ -2,6 +2,8 @@ pub mod Counting
 pub mod Screening
 pub mod Ready
 pub mod Settling
+pub mod Speeds
 pub mod Ending
 pub mod Measuring
+pub mod Runs
 pub mod Laws

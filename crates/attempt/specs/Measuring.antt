@@ -1,12 +1,13 @@
--- Step 4: the counts of measuring, t, u, w, the windows and the speeds of measured seconds 1 and 10.
+-- Step 4: the counts of measuring, t, u, w, the windows, the speed of measured second 1 and whether the speed has held.
 use Prim.Native.Nat.{ℕ}
-use mathlib.Core.Bool.{Bool, true, false, not, _||_}
-use lib.Dec.{eqb}
+use mathlib.Core.Bool.{Bool, true, false, not, _&&_, _||_}
+use lib.Dec.{ltb, eqb}
 use Rattle.refusal.specs.Choice.{pick}
 use Rattle.attempt.specs.declared.MeasuringCounts.{MeasuringCounts}
 use Rattle.attempt.specs.Counting.{bump, inRow, inAll}
+use Rattle.attempt.specs.Speeds.{notBelow}
 
--- "Measuring, begun with t, u, w 0 and no windows": no window is kept, and none of the last ten seconds is of this run.
+-- "Measuring, begun with t, u, w 0 and no windows": no window is kept, none of the last ten seconds is of this run, and no speed has dropped.
 abbrev pub noMeasuring : MeasuringCounts
 noMeasuring = record {
   seconds = 0;
@@ -14,19 +15,27 @@ noMeasuring = record {
   all = 0;
   windows = record { passing = 0; failing = 0 };
   first = 0;
-  tenth = 0;
+  held = true;
   kept = false;
 }
 
--- "t grows by 1", u counts out seconds in a row and w in all; the speeds of measured seconds 1 and 10 are kept.
+-- The speed of measured second 1, kept from then on.
+unfoldable pub firstSpeed : ℕ → ℕ → ℕ → ℕ
+firstSpeed t speed kept = pick (eqb t 1) speed kept
+
+-- Whether the speed has held up to this second: past second 10 it no longer counts. What it comes to over a run's seconds is `Laws: HeldTold`.
+abbrev pub stillHeld : ℕ → ℕ → ℕ → Bool → Bool
+stillHeld t first speed held = (ltb 10 t || notBelow first speed) && held
+
+-- "t grows by 1", u counts out seconds in a row and w in all; second 1's speed is kept, and whether the speed has held.
 unfoldable pub tallied : Bool → ℕ → MeasuringCounts → MeasuringCounts
 tallied out speed k = record {
   seconds = bump (k .seconds);
   row = inRow out (k .row);
   all = inAll out (k .all);
   windows = k .windows;
-  first = pick (eqb (bump (k .seconds)) 1) speed (k .first);
-  tenth = pick (eqb (bump (k .seconds)) 10) speed (k .tenth);
+  first = firstSpeed (bump (k .seconds)) speed (k .first);
+  held = stillHeld (bump (k .seconds)) (firstSpeed (bump (k .seconds)) speed (k .first)) speed (k .held);
   kept = k .kept;
 }
 
@@ -41,10 +50,14 @@ windowCounted passes k = record {
     failing = inAll (not passes) (k .windows .failing);
   };
   first = k .first;
-  tenth = k .tenth;
+  held = k .held;
   kept = true;
 }
 
--- "At u = 3 or w = 6, t, u, w, counts and windows become empty and step 5 follows."
+-- "At u = 3 or w = 6"
 abbrev pub restarts : MeasuringCounts → Bool
 restarts k = eqb (k .row) 3 || eqb (k .all) 6
+
+-- "At u = 3 or w = 6, t, u, w, counts and windows become empty": measuring begins anew, and nothing is left of the run before.
+unfoldable pub restarted : MeasuringCounts → MeasuringCounts
+restarted k = pick (restarts k) noMeasuring k

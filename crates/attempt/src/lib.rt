@@ -2,7 +2,6 @@
 // measuring, and the ending rule. Document 01, "One test, second by second", steps 2 to 4.
 // Exported: the counts and what grows them. Every function is total; loaded_test puts them together.
 ghost use mathlib.Core.Path.{_≡_};
-ghost use Rattle.refusal.specs.Choice.{pick};
 ghost use Rattle.attempt.specs.Counting.{bump, inRow, inAll};
 ghost use Rattle.attempt.specs.Screening.{waits, diluted, flawOf, screened};
 ghost use Rattle.attempt.specs.Ready.{within, ready};
@@ -16,9 +15,17 @@ ghost use Rattle.attempt.specs.Settling.{
   secondOne,
   secondTwo,
 };
-ghost use Rattle.attempt.specs.Ending.{speedHeld, atNinety, endingRule};
-ghost use Rattle.attempt.specs.Measuring.{tallied, windowCounted, restarts};
-ghost use Rattle.attempt.specs.Laws.{ScreenedExactly, SixHundred, FirstMost, NextMost, HeldExactly, RuledExactly};
+ghost use Rattle.attempt.specs.Ending.{atNinety, endingRule};
+ghost use Rattle.attempt.specs.Measuring.{firstSpeed, stillHeld, tallied, windowCounted, restarts, restarted};
+ghost use Rattle.attempt.specs.Laws.{
+  ScreenedExactly,
+  SixHundred,
+  FirstMost,
+  NextMost,
+  HeldExactly,
+  HeldTold,
+  RuledExactly,
+};
 use reading::Second;
 use vehicle::Mode;
 use vehicle::Vehicle;
@@ -37,16 +44,31 @@ pub struct WindowCounts {
     pub failing: u8,
 }
 
-// Measuring: document 01's t, u, w, the counts of windows, the speeds of measured seconds 1 and 10, and whether there is a last valid window.
+// Measuring: document 01's t, u, w, the counts of windows, the speed of measured second 1, whether the speeds up to second 10 have held, and
+// whether there is a last valid window.
 pub struct MeasuringCounts {
     pub seconds: u8,
     pub row: u8,
     pub all: u8,
     pub windows: WindowCounts,
     pub first: u16,
-    pub tenth: u16,
+    pub held: bool,
     pub kept: bool,
 }
+
+// Where measuring begins or begins anew.
+pub const NO_MEASURING: MeasuringCounts = MeasuringCounts {
+    seconds: 0,
+    row: 0,
+    all: 0,
+    windows: WindowCounts {
+        passing: 0,
+        failing: 0,
+    },
+    first: 0,
+    held: true,
+    kept: false,
+};
 
 // What is looked at before the stage: the test waits for its first counted second, the second is void, or neither.
 pub enum Screen {
@@ -230,29 +252,36 @@ pub fn second_two(v: Vehicle, s: Second, k: SettlingCounts) -> SettlingCounts
     settled_two(near, ready_counted(ready(v, Mode::Two, s), k))
 }
 
-fn speed_at(now: bool, speed: u16, kept: u16) -> u16
-    ensures { λ r. ⌜ r ≡ pick now speed kept ⌝ }
+fn first_speed(t: u8, speed: u16, kept: u16) -> u16
+    ensures { λ r. ⌜ r ≡ firstSpeed t speed kept ⌝ }
 {
-    if now {
+    if t == 1 {
         return speed;
     }
     kept
 }
 
+fn still_held(t: u8, first: u16, speed: u16, held: bool) -> bool
+    ensures { λ r. ⌜ r ≡ stillHeld t first speed held ⌝ }
+{
+    ((10 < t) | ((first as u32) <= (speed as u32) + 8)) & held
+}
+
 // A measured second, before its window is judged.
-// Ruled out: t that stays, and the speed of second 9 kept for second 10's.
+// Ruled out: t that stays, the drop looked at in second 10 alone, and a drop from the second before.
 pub fn tallied(out: bool, speed: u16, k: MeasuringCounts) -> MeasuringCounts
-    ensures { λ r. ⌜ r ≡ tallied out speed k ⌝ }
+    ensures { λ r. ⌜ (r ≡ tallied out speed k) × HeldTold × HeldExactly ⌝ }
 {
     let t = bump(k.seconds);
     let windows = k.windows;
+    let first = first_speed(t, speed, k.first);
     MeasuringCounts {
         seconds: t,
         row: in_row(out, k.row),
         all: in_all(out, k.all),
         windows,
-        first: speed_at(t == 1, speed, k.first),
-        tenth: speed_at(t == 10, speed, k.tenth),
+        first,
+        held: still_held(t, first, speed, k.held),
         kept: k.kept,
     }
 }
@@ -273,7 +302,7 @@ pub fn window_counted(passes: bool, k: MeasuringCounts) -> MeasuringCounts
         all: k.all,
         windows,
         first: k.first,
-        tenth: k.tenth,
+        held: k.held,
         kept: true,
     }
 }
@@ -286,12 +315,15 @@ pub fn restarts(k: MeasuringCounts) -> bool
     (k.row == 3) | (k.all == 6)
 }
 
-// Whether the speed of second 10 is at most 8 below that of second 1.
-// Ruled out: 9 below taken, and a speed above second 1's refused.
-pub fn speed_held(first: u16, tenth: u16) -> bool
-    ensures { λ r. ⌜ (r ≡ speedHeld first tenth) × HeldExactly ⌝ }
+// The counts of measuring, begun anew where it restarts.
+// Ruled out: a dip of before the restart that is kept, and windows of before it.
+pub fn restarted(k: MeasuringCounts) -> MeasuringCounts
+    ensures { λ r. ⌜ (r ≡ restarted k) × HeldTold ⌝ }
 {
-    (first as u32) <= (tenth as u32) + 8
+    if restarts(k) {
+        return NO_MEASURING;
+    }
+    k
 }
 
 fn at_ninety(k: WindowCounts) -> Ending

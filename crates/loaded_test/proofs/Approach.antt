@@ -31,7 +31,9 @@ use Rattle.attempt.proofs.Most.{row-most, first-most, next-most}
 use Rattle.loaded_test.specs.Settling.{measuringFrom, settlingLeft, closedOne, closedTwo, settlesIn, settles}
 use Rattle.loaded_test.specs.Log.{Entry, Input}
 use Rattle.loaded_test.specs.Claim.{modeAfter, modeIn, begins, voids, InAttempt, begun, goesOn, none, noSecond, attemptIn}
-use Rattle.loaded_test.specs.Windows.{outRow, longestOut, outAll, passingIn, failingIn, speedAt}
+use Rattle.attempt.specs.Speeds.{speedAt, firstTen, noneBelow, speedHeld}
+use Rattle.attempt.specs.Runs.{rowOf, allOf}
+use Rattle.loaded_test.specs.Windows.{outRow, longestOut, outAll, passingIn, failingIn}
 use Rattle.loaded_test.specs.Sheet.{tGoing, tAfter, runIn}
 use Rattle.loaded_test.proofs.Runs.{oldest-none}
 use Rattle.loaded_test.specs.Laws.{voidAdded, voidsKept, voidsIn}
@@ -106,7 +108,7 @@ module _ (v : Vehicle) (i : Input) (log : List Entry) (last : List window.Measur
       InAttempt log →
       Counts (i ∷ attemptIn log) (p .counted) →
       Good v i log last (turn MeasuringBegan GoesOn (measuringFrom p))
-  unfolding voids tallyOf outRow longestOut outAll passingIn failingIn speedAt someValid runIn tAfter tGoing
+  unfolding voids tallyOf outRow longestOut outAll rowOf allOf passingIn failingIn speedAt firstTen noneBelow speedHeld someValid runIn tAfter tGoing
   began-good p told bounds least attempt counting = record {
     stage = record {
       told = told-on i log MeasuringBegan refl told;

@@ -16,7 +16,7 @@ use Rattle.attempt.specs.Screening.{screened}
 use Rattle.attempt.specs.Ready.{ready}
 use Rattle.attempt.specs.Settling.{begunAnew, watched, settledOne, secondOne}
 use Rattle.attempt.specs.Ending.{earlyPass, endingRule}
-use Rattle.attempt.specs.Measuring.{tallied, windowCounted}
+use Rattle.attempt.specs.Measuring.{firstSpeed, tallied, windowCounted}
 use Rattle.loaded_test.specs.declared.Word.the-variants.{Pass}
 use Rattle.loaded_test.specs.declared.Next.the-variants.{GoesOn, Ends}
 use Rattle.loaded_test.specs.Voids.{stepFive}
@@ -32,7 +32,7 @@ pub passes-36 :
 unfolding
     pick halfUp kH limitsFor rowUpTo displacementBounds loads loadFor targetFor vehicleOf
     dcfOf aimOf inTolerance secondOut secondSteady measuredOf windowValid sumOf sumNo windowPasses inRow inAll screened
-    ready begunAnew watched settledOne secondOne earlyPass endingRule tallied windowCounted stepFive settlingLeft
+    ready begunAnew watched settledOne secondOne earlyPass endingRule firstSpeed tallied windowCounted stepFive settlingLeft
     closedOne settlesIn settles closed concluded windowTaken windowJudged windowKept judged measures inAttempt secondAt measured
     second replay logged logOf
 passes-36 = refl
@@ -42,7 +42,7 @@ pub open-35 : newest (logOf motorcycle (replicate 35 (aSecond row))) ≡ GoesOn
 unfolding
     pick halfUp kH limitsFor rowUpTo displacementBounds loads loadFor targetFor vehicleOf
     dcfOf aimOf inTolerance secondOut secondSteady measuredOf windowValid sumOf sumNo windowPasses inRow inAll screened
-    ready begunAnew watched settledOne secondOne earlyPass endingRule tallied windowCounted stepFive settlingLeft
+    ready begunAnew watched settledOne secondOne earlyPass endingRule firstSpeed tallied windowCounted stepFive settlingLeft
     closedOne settlesIn settles closed concluded windowTaken windowJudged windowKept judged measures inAttempt secondAt measured
     second replay logged logOf
 open-35 = refl

@@ -19,7 +19,8 @@ use Rattle.loaded_test.specs.declared.Progress.{Progress}
 use Rattle.loaded_test.specs.declared.Turn.{Turn}
 use Rattle.loaded_test.specs.declared.Test.{Test}
 use Rattle.loaded_test.specs.declared.Stepped.{Stepped}
-use Rattle.loaded_test.specs.Windows.{outRow, longestOut, outAll, validHere, passingIn, failingIn, speedAt}
+use Rattle.attempt.specs.Speeds.{speedAt, speedHeld}
+use Rattle.loaded_test.specs.Windows.{outRow, longestOut, outAll, validHere, passingIn, failingIn, speedsOf}
 use Rattle.loaded_test.specs.Log.{Entry, Input, logged}
 use Rattle.loaded_test.specs.Claim.{modeIn, InAttempt, Measures, AllClean, attemptIn, NotYetIn, PassClaim}
 use Rattle.loaded_test.specs.Sheet.{runIn}
@@ -69,8 +70,8 @@ tallyOf v mode l = record {
   row = outRow v mode l;
   all = outAll v mode l;
   windows = record { passing = passingIn v mode l; failing = failingIn v mode l };
-  first = speedAt 1 l;
-  tenth = speedAt 10 l;
+  first = speedAt 1 (speedsOf l);
+  held = speedHeld (speedsOf l);
   kept = someValid v mode l;
 }
 

@@ -43,7 +43,7 @@ use Rattle.loaded_test.specs.declared.Answer.{Answer}
 use Rattle.loaded_test.specs.declared.Answer.the-variants.{Told, Refused}
 use Rattle.loaded_test.specs.declared.Stepped.{Stepped}
 use Rattle.loaded_test.specs.declared.Test.{Test}
-use Rattle.loaded_test.specs.State.{emptied, noVoids, withResting, withSettling, withMeasuring, turn, nothing, lastWindow, engineShown}
+use Rattle.loaded_test.specs.State.{emptied, noVoids, withResting, withSettling, withMeasuring, turn, nothing, stepped, lastWindow, engineShown}
 use Rattle.loaded_test.specs.Voids.{ended, modeEnded, voidCounted, voidNext, voidFollowed, voided, stepFive}
 use Rattle.loaded_test.specs.Rest.{rested}
 use Rattle.loaded_test.specs.Settling.{measuringFrom, settlingLeft, closedOne, closedTwo, settlesIn, settles}
@@ -53,6 +53,7 @@ use Rattle.loaded_test.specs.Windows.{outOf, windowOf, validHere, lastVa
 use Rattle.loaded_test.specs.Log.{Entry, Input, aSecond, aStop, step, replay, logged, logOf}
 use Rattle.loaded_test.specs.Claim.{modeAfter, modeIn, Clean}
 use Rattle.loaded_test.specs.Sheet.{tGoing, tAfter, withInput, oldest, runIn, lastValidIn, WindowTold, SheetTold, AllPresentIn}
+use Rattle.attempt.proofs.Runs.{restarted-none}
 use Rattle.loaded_test.proofs.Runs.{oldest-none, oldest-before, oldest-more}
 use Rattle.loaded_test.proofs.Holding.{someValid, tallyOf, AtStage, Stands, entry}
 use Rattle.loaded_test.proofs.Tally.{valid-ten, taken-here, valid-window}
@@ -279,8 +280,11 @@ module _
         e
         (on-pick (ShowsAfter (x .vehicle) (aSecond s) log)
         (restarts (tallied (outOf (x .vehicle) (modeIn log) s) (s .speed) (p .measuring))) _ _
-        (λ _. five-tells (x .vehicle) (aSecond s) log (x .window) Restarted (withMeasuring noMeasuring p)
-        (emptied-counted (x .vehicle) (aSecond s) log (x .window)) refl)
+        (λ again.
+        subst⁻¹ (λ (k : MeasuringCounts). ShowsAfter (x .vehicle) (aSecond s) log (stepped x (stepFive Restarted (withMeasuring k p))))
+        (restarted-none _ again)
+        (five-tells (x .vehicle) (aSecond s) log (x .window) Restarted (withMeasuring noMeasuring p)
+        (emptied-counted (x .vehicle) (aSecond s) log (x .window)) refl))
         (λ stays. judged-shows _ (ap (tallied (outOf (x .vehicle) (modeIn log) s) (s .speed)) (h .running .tally)) stays))
 
 module _ (x : Test) (log : List Entry) (q : Shows (x .vehicle) log (x .progress) (x .window)) where

@@ -1,5 +1,5 @@
 -- A measured second leaves all that holds of a test standing, and a pass is earned. Assumes nothing.
-use Prim.Native.Nat.{ℕ, suc, _+_, _-_, _≤_, _<_}
+use Prim.Native.Nat.{ℕ, suc, _-_, _≤_, _<_}
 use native.Mathlib.Omega.{arith}
 use mathlib.Core.Bool.{Bool, true, false}
 use mathlib.Core.Path.{_≡_, refl, sym, ap, _∙_, subst, subst⁻¹}
@@ -22,20 +22,23 @@ use Rattle.loaded_test.specs.declared.Did.the-variants.{Measured, Restar
 use Rattle.loaded_test.specs.declared.Next.the-variants.{GoesOn}
 use Rattle.loaded_test.specs.declared.Stage.{Stage}
 use Rattle.loaded_test.specs.declared.Stage.the-variants.{Measuring}
+use Rattle.attempt.specs.declared.WindowCounts.{WindowCounts}
 use Rattle.attempt.specs.declared.MeasuringCounts.{MeasuringCounts}
 use Rattle.loaded_test.specs.declared.Progress.{Progress}
 use Rattle.loaded_test.specs.declared.Turn.{Turn}
 use Rattle.attempt.specs.declared.Ending.{Ending}
 use Rattle.attempt.specs.declared.Ending.the-variants.{NotYet, Passes}
 use Rattle.loaded_test.specs.declared.Test.{Test}
-use Rattle.loaded_test.specs.State.{turn, withCounted, withMeasuring, steppedWith}
+use Rattle.loaded_test.specs.State.{turn, withCounted, withMeasuring, stepped, steppedWith}
 use Rattle.loaded_test.specs.Voids.{ended, stepFive}
-use Rattle.attempt.specs.Ending.{speedHeld}
+use Rattle.attempt.specs.Speeds.{speedAt, firstTen, noneBelow, speedHeld, SpeedHeld}
 use Rattle.attempt.specs.Measuring.{noMeasuring, tallied, windowCounted, restarts}
+use Rattle.attempt.specs.Runs.{rowOf, allOf}
+use Rattle.attempt.specs.Laws.{RuleSays}
 use Rattle.loaded_test.specs.Measuring.{closed, concluded, windowTaken, windowJudged, judged, measures}
-use Rattle.loaded_test.specs.Windows.{outOf, outRow, longestOut, outAll, passingIn, failingIn, speedAt, endingOf}
+use Rattle.loaded_test.specs.Windows.{outOf, outRow, longestOut, outAll, passingIn, failingIn, speedsOf, endingOf}
 use Rattle.loaded_test.specs.Log.{Entry, Input, aSecond, logged}
-use Rattle.loaded_test.specs.Claim.{modeAfter, modeIn, voids, InAttempt, goesOn, Measures, none, more, Clean, AllClean, noSecond, andClean, attemptIn}
+use Rattle.loaded_test.specs.Claim.{modeAfter, modeIn, voids, InAttempt, goesOn, Measures, none, more, Clean, AllClean, noSecond, andClean, attemptIn, NotYetIn, NotEndedIn}
 use Rattle.loaded_test.specs.Sheet.{tGoing, tAfter, runIn}
 use Rattle.loaded_test.specs.Laws.{Bounded}
 use Rattle.loaded_test.proofs.Runs.{oldest-none, oldest-more}
@@ -46,7 +49,9 @@ use Rattle.loaded_test.proofs.Approach.{told-on}
 use Rattle.attempt.proofs.Tests.{or-left, or-right}
 use Rattle.attempt.proofs.Most.{row-most, all-most}
 use Rattle.loaded_test.proofs.Tally.{pushed, tally-none, tally-more, windows-most}
-use Rattle.attempt.proofs.Ruled.{on-ending, held-exactly}
+use Rattle.attempt.proofs.Ruled.{on-ending, ruled-exactly}
+use Rattle.attempt.proofs.Speeds.{held-exactly}
+use Rattle.attempt.proofs.Runs.{restarted-none}
 
 -- A run's seconds stand in an attempt.
 attempt-of : {l : List Second} {log : List Entry} → Measures l log → InAttempt log
@@ -59,18 +64,27 @@ measured-voids-not t n e = let z : _≡_ {A = ℕ} 0 1 = cc in omega arith
 
 -- The ending rule in numbers, at a pass.
 abbrev Ended : ℕ → List Second → Type 0
-Ended t l = (t ≡ 90) ⊎ ((25 ≤ t) × (speedAt 1 l ≤ speedAt 10 l + 8))
+Ended t l = (t ≡ 90) ⊎ ((25 ≤ t) × SpeedHeld (speedsOf l))
 
 in-numbers :
     (t : ℕ) (l : List Second) →
-    (t ≡ 90) ⊎ ((25 ≤ t) × (speedHeld (speedAt 1 l) (speedAt 10 l) ≡ true)) →
+    (t ≡ 90) ⊎ ((25 ≤ t) × (speedHeld (speedsOf l) ≡ true)) →
     Ended t l
 in-numbers t l (inl e) = inl e
-in-numbers t l (inr h) = inr (h .0, held-exactly _ _ .0 (h .1))
+in-numbers t l (inr h) = inr (h .0, held-exactly _ .0 (h .1))
 
 ended-least : (t : ℕ) (l : List Second) → Ended t l → 25 ≤ t
 ended-least t l (inl e) = omega arith
 ended-least t l (inr h) = h .0
+
+-- The seconds at which the rule says nothing, in numbers.
+not-ended : (v : Vehicle) (mode : Mode) (l : List Second) → NotYetIn v mode l → NotEndedIn v mode l
+unfolding endingOf
+not-ended v mode [] h = tt
+not-ended v mode (s ∷ l) h =
+    let k : WindowCounts = record { passing = passingIn v mode (s ∷ l); failing = failingIn v mode (s ∷ l) } in
+    let says = subst (RuleSays (length (s ∷ l)) k (speedHeld (speedsOf (s ∷ l)))) (h .0) (ruled-exactly (length (s ∷ l)) k _) in
+    (says .0, λ least enough held. says .1 least enough (held-exactly _ .1 held), not-ended v mode l (h .1))
 
 -- A second that measuring takes: c has grown, and the second is neither over range nor diluted.
 pub record Takes (v : Vehicle) (log : List Entry) (s : Second) (p : Progress) (last : List window.Measured) : Type 0 where
@@ -175,7 +189,7 @@ module _
         unfolding tallyOf
         passes e enough ends =
             let b = bounded in
-            let least : 25 ≤ suc (length (h .running .run)) = ended-least _ _ ends in
+            let least : 25 ≤ suc (length (h .running .run)) = ended-least _ (s ∷ h .running .run) ends in
             let n = short in
             record {
               stage = omega arith;
@@ -200,6 +214,7 @@ module _
                       rule = e;
                       notBefore = h .running .notYet;
                       ending = subst (λ (x : ℕ). Ended x (s ∷ h .running .run)) et ends;
+                      notEnded = not-ended v (modeIn log) (h .running .run) (h .running .notYet);
                       passes = sym ep;
                       fails = sym ef;
                       enough = omega arith;
@@ -223,7 +238,7 @@ module _
             (closed r (withMeasuring (tallyOf v (modeIn log) (s ∷ h .running .run)) p)))
             (suc (length (h .running .run)))
             (record { passing = passingIn v (modeIn log) (s ∷ h .running .run); failing = failingIn v (modeIn log) (s ∷ h .running .run) })
-            (speedHeld (speedAt 1 (s ∷ h .running .run)) (speedAt 10 (s ∷ h .running .run)))
+            (speedHeld (speedsOf (s ∷ h .running .run)))
             (λ enough ends e. passes e enough (in-numbers _ (s ∷ h .running .run) ends))
             (λ ninety few' enough e.
             mode-ended v (aSecond s) log _ (p .mode) (Measured (suc (length (h .running .run)))) (p .voids)
@@ -242,10 +257,10 @@ module _
             refl
 
     -- At u = 3 or w = 6 the run is empty again, and the attempt goes on.
-    restarted :
+    restart-goes :
         p .counted ≤ 144 → Good v (aSecond s) log last (turn Restarted GoesOn (withMeasuring noMeasuring p))
-    unfolding voids tallyOf outRow longestOut outAll passingIn failingIn speedAt someValid runIn tAfter tGoing
-    restarted c =
+    unfolding voids tallyOf outRow longestOut outAll rowOf allOf passingIn failingIn speedAt firstTen noneBelow speedHeld someValid runIn tAfter tGoing
+    restart-goes c =
         let o = h .bounds in
         record {
           stage =
@@ -278,7 +293,7 @@ module _
     restart-good =
         five-good v (aSecond s) log last Restarted (withMeasuring noMeasuring p) (h .told)
         (let o = h .bounds in let c = h .most in let m = settling-most (p .mode) in let r = h .told in omega arith)
-        restarted
+        restart-goes
 
     -- The counts of the run, from those of the state.
     before : (outRow v (modeIn log) (h .running .run) ≤ 2) × (outAll v (modeIn log) (h .running .run) ≤ 5)
@@ -389,5 +404,8 @@ module _
         (measures x (measuredOf (x .vehicle) y s) (tallied (outOf (x .vehicle) y s) (s .speed) (p .measuring)) p))
         e
         (on-pick (Kept (x .vehicle) (aSecond s) log) (restarts (tallied (outOf (x .vehicle) (modeIn log) s) (s .speed) (p .measuring))) _ _
-        (λ _. kept-turn (x .vehicle) (aSecond s) log (x .last) (x .window) _ (restart-good (x .vehicle) log s p (x .last) h))
+        (λ again.
+        subst⁻¹ (λ (k : MeasuringCounts). Kept (x .vehicle) (aSecond s) log (stepped x (stepFive Restarted (withMeasuring k p))))
+        (restarted-none _ again)
+        (kept-turn (x .vehicle) (aSecond s) log (x .last) (x .window) _ (restart-good (x .vehicle) log s p (x .last) h)))
         (λ stays. judged-good _ (ap (tallied (outOf (x .vehicle) (modeIn log) s) (s .speed)) (h .running .tally)) stays))

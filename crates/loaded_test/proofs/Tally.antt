@@ -17,10 +17,12 @@ use Rattle.window.specs.Measuring.{measuredOf, windowValid}
 use Rattle.window.specs.Judging.{windowPasses}
 use Rattle.attempt.specs.Counting.{bump, inRow, inAll}
 use Rattle.attempt.specs.Measuring.{tallied, windowCounted}
+use Rattle.attempt.specs.Runs.{rowOf, allOf}
 use Rattle.loaded_test.specs.Measuring.{windowTaken}
-use Rattle.loaded_test.specs.Windows.{outOf, outRow, outAll, windowOf, validHere, passesHere, failsHere, passingIn, failingIn, speedAt}
+use Rattle.loaded_test.specs.Windows.{outOf, outRow, outAll, windowOf, validHere, passesHere, failsHere, passingIn, failingIn, speedsOf}
 use Rattle.loaded_test.proofs.Holding.{someValid, tallyOf}
 use Rattle.attempt.proofs.Tests.{and-left}
+use Rattle.attempt.proofs.Speeds.{first-more, held-more}
 
 -- A valid window has ten seconds.
 pub valid-ten : (v : Vehicle) (mode : Mode) (l : List Second) → validHere v mode l ≡ true → 10 ≤ length l
@@ -70,24 +72,30 @@ module _
         (row : outRow v mode l ≤ 2) (all : outAll v mode l ≤ 5)
         (windows : passingIn v mode l + failingIn v mode l ≤ length l - 9)
       where
+        -- The number of one second more, by which first-more and held-more go.
+        number : suc (length l) ≡ min (suc (length (speedsOf l))) 255
+        number = let n : length (speedsOf l) ≡ length l = length-map l (λ s. s .speed) in omega arith
+
         -- One more second, where its window is not valid.
         pub tally-none :
             windowTaken (bump (length l)) (take 10 (measuredOf v mode s ∷ last)) ≡ false →
             tallied (outOf v mode s) (s .speed) (tallyOf v mode l) ≡ tallyOf v mode (s ∷ l)
-        unfolding tallied tallyOf inRow inAll outRow outAll passingIn failingIn speedAt someValid passesHere failsHere pick
+        unfolding tallied tallyOf inRow inAll outRow outAll rowOf allOf passingIn failingIn someValid passesHere failsHere pick
         tally-none e =
             let h : validHere v mode (s ∷ l) ≡ false = sym taken-here ∙ e in
             let a : min (length l + 1) 255 ≡ suc (length l) = omega arith in
             let b : min (outRow v mode l + 1) 255 ≡ suc (outRow v mode l) = omega arith in
             let c : min (outAll v mode l + 1) 255 ≡ suc (outAll v mode l) = omega arith in
-            simp (h, a, b, c)
+            let g = first-more _ (s .speed) (speedsOf l) number in
+            let i = held-more _ (s .speed) (speedsOf l) number in
+            simp (h, a, b, c, g, i)
 
         -- One more second, where its window is valid.
         pub tally-more :
             windowTaken (bump (length l)) (take 10 (measuredOf v mode s ∷ last)) ≡ true →
             windowCounted (windowPasses v (take 10 (measuredOf v mode s ∷ last))) (tallied (outOf v mode s) (s .speed) (tallyOf v mode l)) ≡
             tallyOf v mode (s ∷ l)
-        unfolding tallied windowCounted tallyOf inRow inAll outRow outAll passingIn failingIn speedAt someValid passesHere failsHere
+        unfolding tallied windowCounted tallyOf inRow inAll outRow outAll rowOf allOf passingIn failingIn someValid passesHere failsHere
         tally-more e =
             let h : validHere v mode (s ∷ l) ≡ true = sym taken-here ∙ e in
             let w : take 10 (measuredOf v mode s ∷ last) ≡ windowOf v mode (s ∷ l) = valid-window h in
@@ -96,7 +104,9 @@ module _
             let c : min (outAll v mode l + 1) 255 ≡ suc (outAll v mode l) = omega arith in
             let d : min (passingIn v mode l + 1) 255 ≡ suc (passingIn v mode l) = omega arith in
             let f : min (failingIn v mode l + 1) 255 ≡ suc (failingIn v mode l) = omega arith in
-            simp (w, h, a, b, c, d, f)
+            let g = first-more _ (s .speed) (speedsOf l) number in
+            let i = held-more _ (s .speed) (speedsOf l) number in
+            simp (w, h, a, b, c, d, f, g, i)
 
 -- One more window adds at most 1 to both counts together, and nothing before t = 10.
 one-window :

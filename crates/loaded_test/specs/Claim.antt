@@ -17,7 +17,8 @@ use Rattle.loaded_test.specs.declared.Next.the-variants.{GoesOn, Rests, 
 use Rattle.attempt.specs.declared.Ending.the-variants.{NotYet, Passes}
 use Rattle.refusal.specs.Choice.{pick}
 use Rattle.attempt.specs.Screening.{Diluted}
-use Rattle.loaded_test.specs.Windows.{longestOut, outAll, passingIn, failingIn, speedAt, endingOf}
+use Rattle.attempt.specs.Speeds.{SpeedHeld}
+use Rattle.loaded_test.specs.Windows.{longestOut, outAll, passingIn, failingIn, speedsOf, endingOf}
 use Rattle.loaded_test.specs.Log.{Entry, Input, aSecond, aStop}
 
 -- The mode is 2 exactly if mode 2 has begun.
@@ -119,6 +120,14 @@ abbrev pub NotYetIn : Vehicle → Mode → List Second → Type 0
 NotYetIn v mode [] = Unit {0}
 NotYetIn v mode (s ∷ l) = (endingOf v mode (s ∷ l) ≡ NotYet) × NotYetIn v mode l
 
+-- The same in numbers: at none of them is t = 90, nor are there 25 ≤ t, passing ≥ 15 and the speed held.
+abbrev pub NotEndedIn : Vehicle → Mode → List Second → Type 0
+NotEndedIn v mode [] = Unit {0}
+NotEndedIn v mode (s ∷ l) =
+    (length (s ∷ l) ≡ 90 → ⊥) ×
+    (25 ≤ length (s ∷ l) → 15 ≤ passingIn v mode (s ∷ l) → SpeedHeld (speedsOf (s ∷ l)) → ⊥) ×
+    NotEndedIn v mode l
+
 -- A pass (t, passing, failing) told by the entry e after the log.
 pub record Earned (v : Vehicle) (e : Entry) (log : List Entry) (t passing failing : ℕ) : Type 0 where
   -- the last t inputs are seconds, measured in one attempt in which t grew by one from 0
@@ -140,8 +149,9 @@ pub record Earned (v : Vehicle) (e : Entry) (log : List Entry) (t passing failin
   -- the ending rule holds at the last and at none before
   pub rule : endingOf v (modeIn log) (last ∷ before) ≡ Passes
   pub notBefore : NotYetIn v (modeIn log) before
-  -- the rule in numbers: t = 90, or 25 ≤ t and second 10's speed at most 8 below second 1's
-  pub ending : (t ≡ 90) ⊎ ((25 ≤ t) × (speedAt 1 (last ∷ before) ≤ speedAt 10 (last ∷ before) + 8))
+  -- the rule in numbers: t = 90, or 25 ≤ t and the speed of each of seconds 1 to 10 at most 8 below second 1's; at none before
+  pub ending : (t ≡ 90) ⊎ ((25 ≤ t) × SpeedHeld (speedsOf (last ∷ before)))
+  pub notEnded : NotEndedIn v (modeIn log) before
   -- passing and failing are the valid windows counted from the seconds' own units
   pub passes : passing ≡ passingIn v (modeIn log) (last ∷ before)
   pub fails : failing ≡ failingIn v (modeIn log) (last ∷ before)

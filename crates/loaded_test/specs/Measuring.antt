@@ -19,8 +19,8 @@ use Rattle.attempt.specs.declared.Ending.the-variants.{NotYet, Passes, ModeEnds
 use Rattle.loaded_test.specs.declared.Test.{Test}
 use Rattle.loaded_test.specs.declared.Stepped.{Stepped}
 use Rattle.loaded_test.specs.State.{withMeasuring, stepped, steppedWith}
-use Rattle.attempt.specs.Ending.{endingRule, speedHeld}
-use Rattle.attempt.specs.Measuring.{noMeasuring, windowCounted, restarts}
+use Rattle.attempt.specs.Ending.{endingRule}
+use Rattle.attempt.specs.Measuring.{windowCounted, restarts, restarted}
 use Rattle.loaded_test.specs.Voids.{ended, modeEnded, voided, stepFive}
 
 -- What the ending rule says is done: a pass; the end of the mode; "else void 9"; else the attempt goes on to step 5.
@@ -32,8 +32,7 @@ closed Inconclusive p = voided 9 p
 
 -- The ending rule on the counts of this second.
 unfoldable pub concluded : MeasuringCounts → Progress → Turn
-concluded k p =
-    closed (endingRule (k .seconds) (k .windows) (speedHeld (k .first) (k .tenth))) (withMeasuring k p)
+concluded k p = closed (endingRule (k .seconds) (k .windows) (k .held)) (withMeasuring k p)
 
 -- "from t = 10, the window ending here is valid if none of its seconds is out and engine speed was good in all"
 unfoldable pub windowTaken : ℕ → List Measured → Bool
@@ -53,9 +52,9 @@ judged valid x k p last =
     steppedWith (x .vehicle) last (windowKept valid last (x .window))
     (concluded (windowJudged valid (x .vehicle) last k) p)
 
--- A measured second, its units in m, after t, u and w have taken it up.
+-- A measured second, its units in m, after t, u and w have taken it up: at a restart "t, u, w, counts and windows become empty and step 5 follows."
 unfoldable pub measures : Test → Measured → MeasuringCounts → Progress → Stepped
 measures x m k p =
     pick (restarts k)
-    (stepped x (stepFive did.Restarted (withMeasuring noMeasuring p)))
+    (stepped x (stepFive did.Restarted (withMeasuring (restarted k) p)))
     (judged (windowTaken (k .seconds) (take 10 (m ∷ (x .last)))) x k p (take 10 (m ∷ (x .last))))

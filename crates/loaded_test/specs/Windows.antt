@@ -2,7 +2,7 @@
 use Prim.Native.Nat.{ℕ, suc, max}
 use mathlib.Core.Bool.{Bool, not, _&&_}
 use mathlib.Core.List.{List, [], _∷_, map}
-use lib.Dec.{leb, eqb}
+use lib.Dec.{leb}
 use lib.ListN.{length, take}
 use Rattle.refusal.specs.Choice.{pick}
 use Rattle.reading.specs.declared.Second.{Second}
@@ -12,7 +12,9 @@ use Rattle.window.specs.declared.Measured.{Measured}
 use Rattle.window.specs.Measuring.{secondOut, measuredOf, windowValid}
 use Rattle.window.specs.Judging.{windowPasses}
 use Rattle.attempt.specs.declared.Ending.{Ending}
-use Rattle.attempt.specs.Ending.{endingRule, speedHeld}
+use Rattle.attempt.specs.Ending.{endingRule}
+use Rattle.attempt.specs.Speeds.{speedHeld}
+use Rattle.attempt.specs.Runs.{rowOf, allOf}
 
 -- "Out" is speed more than 15 from target or load out of tolerance.
 abbrev pub outOf : Vehicle → Mode → Second → Bool
@@ -20,8 +22,7 @@ outOf v mode s = secondOut v mode s
 
 -- How many of the newest seconds are out in a row.
 unfoldable pub outRow : Vehicle → Mode → List Second → ℕ
-outRow v mode [] = 0
-outRow v mode (s ∷ l) = pick (outOf v mode s) (suc (outRow v mode l)) 0
+outRow v mode l = rowOf (map (outOf v mode) l)
 
 -- The longest row of out seconds.
 unfoldable pub longestOut : Vehicle → Mode → List Second → ℕ
@@ -30,8 +31,7 @@ longestOut v mode (s ∷ l) = max (outRow v mode (s ∷ l)) (longestOut v mode l
 
 -- How many seconds are out in all.
 unfoldable pub outAll : Vehicle → Mode → List Second → ℕ
-outAll v mode [] = 0
-outAll v mode (s ∷ l) = pick (outOf v mode s) (suc (outAll v mode l)) (outAll v mode l)
+outAll v mode l = allOf (map (outOf v mode) l)
 
 -- "A window is ten consecutive measured seconds": the one that ends with the newest second.
 unfoldable pub windowOf : Vehicle → Mode → List Second → List Measured
@@ -64,14 +64,13 @@ unfoldable pub lastValid : Vehicle → Mode → List Second → List Second
 lastValid v mode [] = []
 lastValid v mode (s ∷ l) = pick (validHere v mode (s ∷ l)) (take 10 (s ∷ l)) (lastValid v mode l)
 
--- The speed of the k-th measured second, 0 where the run is shorter.
-unfoldable pub speedAt : ℕ → List Second → ℕ
-speedAt k [] = 0
-speedAt k (s ∷ l) = pick (eqb (suc (length l)) k) (s .speed) (speedAt k l)
+-- The speeds of a run.
+abbrev pub speedsOf : List Second → List ℕ
+speedsOf l = map (λ s. s .speed) l
 
 -- What the ending rule says at the newest second of a run.
 unfoldable pub endingOf : Vehicle → Mode → List Second → Ending
 endingOf v mode l =
     endingRule (length l)
     (record { passing = passingIn v mode l; failing = failingIn v mode l })
-    (speedHeld (speedAt 1 l) (speedAt 10 l))
+    (speedHeld (speedsOf l))

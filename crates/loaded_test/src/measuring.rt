@@ -15,7 +15,7 @@ ghost use Rattle.loaded_test.specs.Voids.{stepFive};
 ghost use Rattle.loaded_test.specs.Steps.{measured, secondAt};
 ghost use Rattle.loaded_test.specs.declared.Did.the-variants.{Restarted};
 ghost use Rattle.loaded_test.specs.declared.Stage.the-variants.{Measuring};
-ghost use Rattle.attempt.specs.Measuring.{noMeasuring};
+ghost use Rattle.attempt.specs.Measuring.{restarted};
 use crate::Answer;
 use crate::Did;
 use crate::Progress;
@@ -26,7 +26,6 @@ use crate::Word;
 use crate::steps::counted;
 use crate::steps::flawed;
 use crate::steps::waited;
-use crate::voids::NO_MEASURING;
 use crate::voids::ended;
 use crate::voids::mode_ended;
 use crate::voids::step_five;
@@ -36,7 +35,6 @@ use attempt::MeasuringCounts;
 use attempt::Screen;
 use attempt::ending_rule;
 use attempt::restarts;
-use attempt::speed_held;
 use attempt::tallied;
 use attempt::window_counted;
 use reading::Second;
@@ -82,7 +80,7 @@ fn concluded(k: MeasuringCounts, p: Progress) -> Turn
     ensures { λ r. ⌜ r ≡ concluded k p ⌝ }
 {
     let windows = k.windows;
-    let ending = ending_rule(k.seconds, windows, speed_held(k.first, k.tenth));
+    let ending = ending_rule(k.seconds, windows, k.held);
     let mut q = p;
     q.measuring = k;
     closed(ending, q)
@@ -141,11 +139,11 @@ fn pushed(m: Measured, a: [Measured; 10]) -> [Measured; 10]
     [m, a[0], a[1], a[2], a[3], a[4], a[5], a[6], a[7], a[8]]
 }
 
-fn restarted(x: Test, p: Progress) -> Stepped
-    ensures { λ r. ⌜ r ≡ stepped x (stepFive Restarted (withMeasuring noMeasuring p)) ⌝ }
+fn restarted(x: Test, k: MeasuringCounts, p: Progress) -> Stepped
+    ensures { λ r. ⌜ r ≡ stepped x (stepFive Restarted (withMeasuring (restarted k) p)) ⌝ }
 {
     let mut q = p;
-    let none = NO_MEASURING;
+    let none = attempt::restarted(k);
     q.measuring = none;
     stepped(x, step_five(Did::Restarted, q))
 }
@@ -154,7 +152,7 @@ fn measures(x: Test, m: Measured, k: MeasuringCounts, p: Progress) -> Stepped
     ensures { λ r. ⌜ r ≡ measures x m k p ⌝ }
 {
     if restarts(k) {
-        return restarted(x, p);
+        return restarted(x, k, p);
     }
     let a = x.last;
     let last = pushed(m, a);

@@ -14,9 +14,8 @@ use crate::Turn;
 use crate::Verdict;
 use crate::VoidCounts;
 use crate::Word;
-use attempt::MeasuringCounts;
+use attempt::NO_MEASURING;
 use attempt::SettlingCounts;
-use attempt::WindowCounts;
 use attempt::bump;
 use attempt::in_row;
 use vehicle::Mode;
@@ -26,19 +25,6 @@ pub(crate) const NO_SETTLING: SettlingCounts = SettlingCounts {
     ready: 0,
     row: 0,
     all: 0,
-};
-
-pub(crate) const NO_MEASURING: MeasuringCounts = MeasuringCounts {
-    seconds: 0,
-    row: 0,
-    all: 0,
-    windows: WindowCounts {
-        passing: 0,
-        failing: 0,
-    },
-    first: 0,
-    tenth: 0,
-    kept: false,
 };
 
 pub(crate) const NO_VOIDS: VoidCounts = VoidCounts {

@@ -16,7 +16,7 @@ use Rattle.window.specs.Judging.{sumOf, sumNo, windowPasses}
 use Rattle.window.specs.Measuring.{secondOut, secondSteady, measuredOf, windowValid}
 use Rattle.attempt.specs.Counting.{inRow, inAll}
 use Rattle.attempt.specs.Ending.{atNinety, earlyPass, endingRule}
-use Rattle.attempt.specs.Measuring.{tallied, windowCounted}
+use Rattle.attempt.specs.Measuring.{firstSpeed, tallied, windowCounted, restarted}
 use Rattle.attempt.specs.Ready.{ready}
 use Rattle.attempt.specs.Screening.{screened}
 use Rattle.attempt.specs.Settling.{begunAnew, watched, settledOne, settledTwo, secondOne, secondTwo}
@@ -40,7 +40,7 @@ use Rattle.bench.specs.Telling.{secondInput, verdictNext, verdictTold, endedBy,
 use Rattle.worked.specs.Runs.{Played}
 
 pub played : Played
-unfolding benchAnswers pick readingOf accepted unitCount Rattle.reading.specs.Rounding.halfUp judgedOf keep secondFrom secondOf dcfOf kH Rattle.correction.specs.Rounding.halfUp vehicleOf checkedOf aimOf inTolerance limitsFor rowUpTo displacementBounds loads loadFor targetFor ranges rangeAt settingFit firstUnfit unfitPlace sumOf sumNo windowPasses secondOut secondSteady measuredOf windowValid inRow inAll atNinety earlyPass endingRule tallied windowCounted ready screened begunAnew watched settledOne settledTwo secondOne secondTwo isRunning closed concluded windowTaken windowJudged windowKept measures Rattle.loaded_test.specs.Measuring.judged replay restCount rested settlingLeft closedOne closedTwo settlesIn settles measured inAttempt secondAt second isResting stop begunBy begin Rattle.loaded_test.specs.Steps.stopTaken modeEnded voidCounted voidNext twiceInconclusive thirdVoid voidFollowed voided stepFive runPassed ofSpeeds since any orElse latestOf notWarm activeClock overdue inactive expired noneValid latestCalibration latestRun somePassed notCoasted notCalibrated noneGood latestTry notSignedIn wrongTries wrongRow passwordLock authorityLock withVerdict verdictsIn unsentIn unsentLock firstStanding lockInOrder lockOf warmAfter calibratedBy calibratedAfter ranAfter signedAfter activeAfter wrongAfter securityAfter unsentAfter lockNumber settingAt saturationBad causeBad automaticOf readingFit leastUnfit readingAt inertiaBad powerBad lockAt causes firstCause runs inertiaRuling powerRuling serviceTaken lockRuling startTaken secondTaken stepBy step Rattle.bench.specs.Stepping.stopTaken secondInput verdictNext verdictTold endedBy stepTaken leftBy acceptance added tell historyAnswers Rattle.bench.specs.Telling.judged
+unfolding benchAnswers pick readingOf accepted unitCount Rattle.reading.specs.Rounding.halfUp judgedOf keep secondFrom secondOf dcfOf kH Rattle.correction.specs.Rounding.halfUp vehicleOf checkedOf aimOf inTolerance limitsFor rowUpTo displacementBounds loads loadFor targetFor ranges rangeAt settingFit firstUnfit unfitPlace sumOf sumNo windowPasses secondOut secondSteady measuredOf windowValid inRow inAll atNinety earlyPass endingRule firstSpeed tallied windowCounted restarted ready screened begunAnew watched settledOne settledTwo secondOne secondTwo isRunning closed concluded windowTaken windowJudged windowKept measures Rattle.loaded_test.specs.Measuring.judged replay restCount rested settlingLeft closedOne closedTwo settlesIn settles measured inAttempt secondAt second isResting stop begunBy begin Rattle.loaded_test.specs.Steps.stopTaken modeEnded voidCounted voidNext twiceInconclusive thirdVoid voidFollowed voided stepFive runPassed ofSpeeds since any orElse latestOf notWarm activeClock overdue inactive expired noneValid latestCalibration latestRun somePassed notCoasted notCalibrated noneGood latestTry notSignedIn wrongTries wrongRow passwordLock authorityLock withVerdict verdictsIn unsentIn unsentLock firstStanding lockInOrder lockOf warmAfter calibratedBy calibratedAfter ranAfter signedAfter activeAfter wrongAfter securityAfter unsentAfter lockNumber settingAt saturationBad causeBad automaticOf readingFit leastUnfit readingAt inertiaBad powerBad lockAt causes firstCause runs inertiaRuling powerRuling serviceTaken lockRuling startTaken secondTaken stepBy step Rattle.bench.specs.Stepping.stopTaken secondInput verdictNext verdictTold endedBy stepTaken leftBy acceptance added tell historyAnswers Rattle.bench.specs.Telling.judged
 played = record {
   passing = record { bench = refl; history = refl };
   afterVoid = record { bench = refl; history = refl };
@@ -67,4 +67,12 @@ played = record {
   clockKept = record { bench = refl; history = refl };
   greatestClocks = record { bench = refl; history = refl };
   voids = record { one = refl; oneLess = refl; two = refl; twoLess = refl };
+  dipOfNine = record { bench = refl; history = refl };
+  dipOfEight = record { bench = refl; history = refl };
+  dipAtEleven = record { bench = refl; history = refl };
+  dipAtTen = record { bench = refl; history = refl };
+  dipForgotten = record { bench = refl; history = refl };
+  slowFall = record { bench = refl; history = refl };
+  riseFree = record { bench = refl; history = refl };
+  keptRunning = record { stage = refl; t = refl; passing = refl };
 }

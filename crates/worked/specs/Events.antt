@@ -91,9 +91,13 @@ driven speed load engine hc = record {
   o2 = Missing;
 }
 
--- Mode 1: 25.0 km/h and 109/128 kW, which is 85 units.
+-- Mode 1's load, 109/128 kW, which is 85 units, at this speed.
+abbrev pub oneAt : Reading → Reading → Reading → Readings
+oneAt speed engine hc = driven speed (Value (fin false 109 (negsuc 6))) engine hc
+
+-- Mode 1: 25.0 km/h.
 abbrev pub one : Reading → Reading → Readings
-one engine hc = driven (whole 25) (Value (fin false 109 (negsuc 6))) engine hc
+one engine hc = oneAt (whole 25) engine hc
 
 -- Mode 2: 40.0 km/h and 11/16 kW, which is 69 units.
 abbrev pub two : Reading → Reading → Readings
@@ -110,6 +114,10 @@ foul = whole 1000
 -- A second at mode 1's target and load, with no engine speed and this HC.
 abbrev pub atOne : Reading → Event
 atOne hc = Second 2 (one Missing hc)
+
+-- A second at mode 1's load and this speed.
+abbrev pub atSpeed : Reading → Event
+atSpeed speed = Second 2 (oneAt speed Missing clean)
 
 -- A second at mode 2's target and load.
 abbrev pub atTwo : Reading → Event

@@ -6,4 +6,5 @@ pub mod Locking
 pub mod Coasting
 pub mod Refusing
 pub mod Voiding
+pub mod Dipping
 pub mod Runs

@@ -13,6 +13,7 @@ use Rattle.worked.specs.Locking as locking
 use Rattle.worked.specs.Coasting as coasting
 use Rattle.worked.specs.Refusing as refusing
 use Rattle.worked.specs.Voiding.{SevenFirst}
+use Rattle.worked.specs.Dipping as dipping
 
 -- V: a day.
 abbrev pub validity : ℕ
@@ -59,3 +60,12 @@ pub record Played : Type 0 where
   pub greatestClocks : Answered refusing.greatestClocks
   -- which void comes first
   pub voids : SevenFirst
+  -- the speed drop
+  pub dipOfNine : Answered dipping.dipOfNine
+  pub dipOfEight : Answered dipping.dipOfEight
+  pub dipAtEleven : Answered dipping.dipAtEleven
+  pub dipAtTen : Answered dipping.dipAtTen
+  pub dipForgotten : Answered dipping.dipForgotten
+  pub slowFall : Answered dipping.slowFall
+  pub riseFree : Answered dipping.riseFree
+  pub keptRunning : dipping.KeptRunning

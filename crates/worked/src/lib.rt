@@ -1,4 +1,4 @@
-// Document 01, "Worked by hand", and figures for document 02's A.1 to A.3, computed from the definitions that the other crates' contracts cite.
+// Document 01, "Worked by hand", and figures and runs for document 02's A.1 to A.4, computed from the definitions that the other crates' contracts cite.
 // Nothing is computed when the program runs: each function's contract is a claim, so that the claim cannot go without its proof.
 ghost use Rattle.worked.specs.Cases.{Worked};
 ghost use Rattle.worked.specs.Runs.{Played};
@@ -11,7 +11,7 @@ pub fn starred_cases()
 {}
 
 // Runs of events from a fresh bench with what the bench and the plain history answer to each.
-// Ruled out: a bench on which no start is admitted, and one that tells no verdict but a pass.
+// Ruled out: a bench on which no start is admitted, one that tells no verdict but a pass, and one that passes at t = 25 after a dip of 9 at second 6.
 pub fn played_runs()
     ensures { λ r. ⌜ Played ⌝ }
 {}

@@ -5,9 +5,6 @@ use borrow.Author.Needs.{needs}
 use Rattle.loaded_test.proofs.measuring.concluded.Statement.{statement}
 use Rattle.loaded_test.proofs.measuring.concluded.Tie as tie
 
-speed-held-requires : tie.Need-speed-held-requires
-speed-held-requires c κs = search needs
-
 ending-rule-requires : tie.Need-ending-rule-requires
 ending-rule-requires c κs = search needs
 
@@ -16,8 +13,7 @@ closed-requires c κs = search needs
 
 returns : tie.Need-returns
 unfolding concluded
-returns c = c .closed .ensures ∙ simp (c .before .ending-rule .ensures .0, c .before .before .speed-held .ensures .0)
+returns c = c .closed .ensures ∙ simp (c .before .ending-rule .ensures .0)
 
 pub concluded-spec : {M : Type 1} → statement M
-concluded-spec =
-    tie.close (tie.spec speed-held-requires ending-rule-requires closed-requires returns)
+concluded-spec = tie.close (tie.spec ending-rule-requires closed-requires returns)

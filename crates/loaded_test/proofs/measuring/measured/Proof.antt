@@ -22,7 +22,7 @@ measures-requires c κs = search needs
 
 returns : tie.Need-returns
 unfolding measured
-returns c = c .measures .ensures ∙ simp (c .before .tallied .ensures, c .before .before .speed .ensures, c .before .before .before .second-out .ensures .0, c .before .before .before .before .measured-of .ensures .0)
+returns c = c .measures .ensures ∙ simp (c .before .tallied .ensures .0, c .before .before .speed .ensures, c .before .before .before .second-out .ensures .0, c .before .before .before .before .measured-of .ensures .0)
 
 pub measured-spec : {M : Type 1} → statement M
 measured-spec =

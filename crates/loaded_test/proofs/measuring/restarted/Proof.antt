@@ -4,6 +4,9 @@ use borrow.Author.Needs.{needs}
 use Rattle.loaded_test.proofs.measuring.restarted.Statement.{statement}
 use Rattle.loaded_test.proofs.measuring.restarted.Tie as tie
 
+restarted-requires : tie.Need-restarted-requires
+restarted-requires c κs = search needs
+
 step-five-requires : tie.Need-step-five-requires
 step-five-requires c κs = search needs
 
@@ -11,7 +14,7 @@ stepped-requires : tie.Need-stepped-requires
 stepped-requires c κs = search needs
 
 returns : tie.Need-returns
-returns c = c .stepped .ensures ∙ simp (c .before .step-five .ensures)
+returns c = c .stepped .ensures ∙ simp (c .before .step-five .ensures, c .before .before .restarted .ensures .0)
 
 pub restarted-spec : {M : Type 1} → statement M
-restarted-spec = tie.close (tie.spec step-five-requires stepped-requires returns)
+restarted-spec = tie.close (tie.spec restarted-requires step-five-requires stepped-requires returns)
