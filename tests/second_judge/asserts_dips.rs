@@ -54,9 +54,6 @@ fn check_second_6(checks: &mut Checks, mode: u8) {
     checks.same("dip of 9 at t = 90", line, pass(mode, 90));
     let line = stands(mode, |s| s.dip(6, 8, 25));
     checks.same("dip of 8 at second 6", line, pass(mode, 25));
-    // Looking at second 10 alone passes it.
-    let line = stands(mode, |s| s.dip(6, 9, 25));
-    checks.different("second 10 alone", line, pass(mode, 25));
 }
 
 fn check_dip_at(checks: &mut Checks, mode: u8, second: usize) {

@@ -1,6 +1,6 @@
 -- The ending rule in numbers. Assumes nothing.
 use Prim.Native.Nat.{ℕ, _≤_, _<_}
-use mathlib.Core.Bool.{Bool, true, false, _&&_}
+use mathlib.Core.Bool.{Bool, true, false, _&&_, true≢false}
 use mathlib.Core.Path.{_≡_, sym, _∙_}
 use mathlib.Core.Logic.{_⊎_, inl, inr}
 use lib.Dec.{leb, eqb}
@@ -11,7 +11,7 @@ use Rattle.attempt.specs.declared.Ending.{Ending}
 use Rattle.attempt.specs.declared.Ending.the-variants.{NotYet, Passes, ModeEnds, Inconclusive}
 use Rattle.attempt.specs.Ending.{atNinety, earlyPass, endingRule}
 use Rattle.attempt.specs.Laws.{RuleSays, RuledExactly}
-use Rattle.attempt.proofs.Tests.{nonsense, and-left, and-right}
+use Rattle.attempt.proofs.Tests.{and-left, and-right}
 
 -- An early pass meets its three tests.
 early :
@@ -33,7 +33,7 @@ not-early :
     25 ≤ t → 15 ≤ k .passing → held ≡ true → ⊥
 unfolding earlyPass
 not-early t k held e least enough h =
-    nonsense (sym (simp (le-leb _ _ least, le-leb _ _ enough, h)) ∙ e)
+    true≢false (sym (simp (le-leb _ _ least, le-leb _ _ enough, h)) ∙ e)
 
 -- What holds of each outcome, from what led to it, holds of the rule's.
 pub on-ending :

@@ -1,7 +1,7 @@
 -- Steps 2 and 3 in numbers. Assumes nothing.
 use Prim.Native.Nat.{ℕ, _+_, _*_, _≤_, _<_}
 use native.Mathlib.Omega.{arith}
-use mathlib.Core.Bool.{Bool, true, false}
+use mathlib.Core.Bool.{Bool, true, false, true≢false}
 use mathlib.Core.Path.{_≡_, refl, sym, _∙_}
 use mathlib.Core.Logic.{inl, inr}
 use lib.Dec.{leb, eqb}
@@ -10,14 +10,14 @@ use Rattle.refusal.proofs.Picked.{on-pick}
 use Rattle.reading.specs.declared.Second.{Second}
 use Rattle.attempt.specs.Screening.{waits, diluted, screened}
 use Rattle.attempt.specs.Laws.{Screens, ScreenedExactly}
-use Rattle.attempt.proofs.Tests.{nonsense, and-left, and-right}
+use Rattle.attempt.proofs.Tests.{and-left, and-right}
 
 -- A second that does not wait at c = 0 has a speed above 10.
 counts-at-zero : (c : ℕ) (s : Second) → waits c s ≡ false → c ≡ 0 → 10 < s .speed
 counts-at-zero c s e z = go (leb (s .speed) 10) refl
   where
     go : (b : Bool) → leb (s .speed) 10 ≡ b → 10 < s .speed
-    go true f = absurd (nonsense (sym (simp (z, f)) ∙ e))
+    go true f = absurd (true≢false (sym (simp (z, f)) ∙ e))
     go false f = leb-false _ _ f
 
 pub screened-exactly : ScreenedExactly

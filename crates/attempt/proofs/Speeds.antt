@@ -9,7 +9,7 @@ use lib.ListN.{length, drop, length-drop}
 use borrow.Author.Tests.{eq-eqb, ne-eqb, eqb-false, lt-ltb, le-ltb, le-leb, leb-true, leb-false}
 use Rattle.refusal.specs.Choice.{pick}
 use Rattle.refusal.proofs.Picked.{on-pick}
-use Rattle.attempt.specs.Speeds.{speedAt, firstTen, notBelow, noneBelow, speedHeld}
+use Rattle.attempt.specs.Speeds.{speedAt, firstTen, heldAt, allHeld, speedHeld}
 use Rattle.attempt.specs.Measuring.{firstSpeed, stillHeld}
 use Rattle.attempt.specs.Laws.{HeldExactly}
 use Rattle.attempt.proofs.Tests.{and-left, and-right}
@@ -22,30 +22,30 @@ at-older : (k speed : ℕ) (l : List ℕ) → k ≤ length l → speedAt k (spee
 unfolding speedAt pick
 at-older k speed l h = let e : eqb (suc (length l)) k ≡ false = ne-eqb _ _ (λ (f : suc (length l) ≡ k). omega arith) in simp (e)
 
--- None of a list's speeds is below, by their numbers.
-below-none :
+-- Each of a list's speeds has held, by their numbers.
+held-each :
     (first : ℕ) (l : List ℕ) →
-    noneBelow first l ≡ true →
+    allHeld first l ≡ true →
     (k : ℕ) → 1 ≤ k → k ≤ length l → first ≤ speedAt k l + 8
-unfolding noneBelow speedAt
-below-none first [] e k least most = absurd (omega arith)
-below-none first (speed ∷ l) e k least most =
+unfolding allHeld speedAt
+held-each first [] e k least most = absurd (omega arith)
+held-each first (speed ∷ l) e k least most =
     on-pick (λ (x : ℕ). first ≤ x + 8) (eqb (suc (length l)) k) speed (speedAt k l)
-    (λ _. leb-true _ _ (and-left (notBelow first speed) (noneBelow first l) e))
+    (λ _. leb-true _ _ (and-left (heldAt first speed) (allHeld first l) e))
     (λ f. let g : suc (length l) ≡ k → ⊥ = eqb-false _ _ f in
-    below-none first l (and-right (notBelow first speed) (noneBelow first l) e) k least (omega arith))
+    held-each first l (and-right (heldAt first speed) (allHeld first l) e) k least (omega arith))
 
-none-below :
+each-held :
     (first : ℕ) (l : List ℕ) →
     ((k : ℕ) → 1 ≤ k → k ≤ length l → first ≤ speedAt k l + 8) →
-    noneBelow first l ≡ true
-unfolding noneBelow
-none-below first [] h = refl
-none-below first (speed ∷ l) h =
+    allHeld first l ≡ true
+unfolding allHeld
+each-held first [] h = refl
+each-held first (speed ∷ l) h =
     let a : first ≤ speed + 8 = subst (λ (x : ℕ). first ≤ x + 8) (at-newest speed l) (h (suc (length l)) (omega arith) (omega arith)) in
-    let b : noneBelow first l ≡ true =
-        none-below first l
-        (λ k least most. subst (λ (x : ℕ). first ≤ x + 8) (at-older k speed l most) (h k least (omega arith)))
+    let b : allHeld first l ≡ true =
+    each-held first l
+    (λ k least most. subst (λ (x : ℕ). first ≤ x + 8) (at-older k speed l most) (h k least (omega arith)))
     in
     simp (le-leb _ _ a, b)
 
@@ -79,12 +79,12 @@ pub held-exactly : HeldExactly
 unfolding speedHeld
 held-exactly l = (
   λ e k least most there.
-  let n = ten-length l in
-  subst (λ (x : ℕ). speedAt 1 l ≤ x + 8) (ten-at k l most)
-  (below-none (speedAt 1 l) (firstTen l) e k least (omega arith)),
-  λ h. none-below (speedAt 1 l) (firstTen l)
-  (λ k least most. let n = ten-length l in
-  subst (λ (x : ℕ). speedAt 1 l ≤ x + 8) (sym (ten-at k l (omega arith))) (h k least (omega arith) (omega arith))),
+      let n = ten-length l in
+      subst (λ (x : ℕ). speedAt 1 l ≤ x + 8) (ten-at k l most)
+      (held-each (speedAt 1 l) (firstTen l) e k least (omega arith)),
+  λ h. each-held (speedAt 1 l) (firstTen l)
+      (λ k least most. let n = ten-length l in
+      subst (λ (x : ℕ). speedAt 1 l ≤ x + 8) (sym (ten-at k l (omega arith))) (h k least (omega arith) (omega arith))),
 )
 
 -- One second more, its number held at the greatest of its byte.
@@ -99,17 +99,17 @@ first-more t speed (x ∷ l) h =
     let f : eqb (suc (suc (length l))) 1 ≡ false = ne-eqb _ _ (λ (g : suc (suc (length l)) ≡ 1). omega arith) in
     simp (e, f)
 
-none-below-first : (speed : ℕ) (l : List ℕ) → noneBelow (speedAt 1 (speed ∷ l)) l ≡ noneBelow (speedAt 1 l) l
-unfolding noneBelow
-none-below-first speed [] = refl
-none-below-first speed (x ∷ l) =
-    ap (λ (first : ℕ). noneBelow first (x ∷ l)) (at-older 1 speed (x ∷ l) (omega arith))
+all-held-first : (speed : ℕ) (l : List ℕ) → allHeld (speedAt 1 (speed ∷ l)) l ≡ allHeld (speedAt 1 l) l
+unfolding allHeld
+all-held-first speed [] = refl
+all-held-first speed (x ∷ l) =
+    ap (λ (first : ℕ). allHeld first (x ∷ l)) (at-older 1 speed (x ∷ l) (omega arith))
 
 pub held-more :
     (t speed : ℕ) (l : List ℕ) →
     t ≡ min (suc (length l)) 255 →
     stillHeld t (speedAt 1 (speed ∷ l)) speed (speedHeld l) ≡ speedHeld (speed ∷ l)
-unfolding speedHeld noneBelow
+unfolding speedHeld allHeld
 held-more t speed l h = go (leb (length l) 9) refl
   where
     go :
@@ -118,7 +118,7 @@ held-more t speed l h = go (leb (length l) 9) refl
         stillHeld t (speedAt 1 (speed ∷ l)) speed (speedHeld l) ≡ speedHeld (speed ∷ l)
     go true e =
         let f : length l ≤ 9 = leb-true _ _ e in
-        simp (le-ltb 10 t (omega arith), ten-all (speed ∷ l) (omega arith), ten-all l (omega arith), none-below-first speed l)
+        simp (le-ltb 10 t (omega arith), ten-all (speed ∷ l) (omega arith), ten-all l (omega arith), all-held-first speed l)
     go false e =
         let f = leb-false (length l) 9 e in
         simp (lt-ltb 10 t (omega arith), ten-past speed l (omega arith), at-older 1 speed l (omega arith))

@@ -1,11 +1,6 @@
 -- Tests joined by && and ||, taken apart. Assumes nothing.
-use Prim.Native.Nat.{ℕ}
-use native.Mathlib.Omega.{arith}
-use mathlib.Core.Bool.{Bool, true, false, _&&_, _||_}
+use mathlib.Core.Bool.{Bool, true, false, _&&_, _||_, true≢false}
 use mathlib.Core.Path.{_≡_, refl, sym}
-
-pub nonsense : true ≡ false → ⊥
-nonsense e = let z : _≡_ {A = ℕ} 0 1 = cc in omega arith
 
 pub and-left : (a b : Bool) → a && b ≡ true → a ≡ true
 and-left true b e = refl
@@ -13,12 +8,12 @@ and-left false b e = e
 
 pub and-right : (a b : Bool) → a && b ≡ true → b ≡ true
 and-right true b e = e
-and-right false b e = absurd (nonsense (sym e))
+and-right false b e = absurd (true≢false (sym e))
 
 pub or-left : (a b : Bool) → a || b ≡ false → a ≡ false
 or-left true b e = e
 or-left false b e = refl
 
 pub or-right : (a b : Bool) → a || b ≡ false → b ≡ false
-or-right true b e = absurd (nonsense e)
+or-right true b e = absurd (true≢false e)
 or-right false b e = e

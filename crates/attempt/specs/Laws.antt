@@ -1,9 +1,10 @@
 -- What is claimed of the rules of an attempt, in numbers. Each claim is carried by the contract of the function that it is about.
-use Prim.Native.Nat.{ℕ, _≤_, _<_}
+use Prim.Native.Nat.{ℕ, _≤_, _<_, min}
 use mathlib.Core.Bool.{Bool, true, false}
 use mathlib.Core.Path.{_≡_}
 use mathlib.Core.List.{List}
 use mathlib.Core.Logic.{_⊎_, _↔_}
+use lib.ListN.{length}
 use Rattle.reading.specs.declared.Second.{Second}
 use Rattle.correction.specs.Dilution.{dilutionSum}
 use Rattle.vehicle.specs.declared.Vehicle.{Vehicle}
@@ -18,8 +19,9 @@ use Rattle.attempt.specs.Screening.{diluted, Diluted, screened}
 use Rattle.attempt.specs.Ready.{ready}
 use Rattle.attempt.specs.Settling.{secondOne, secondTwo}
 use Rattle.attempt.specs.Ending.{endingRule}
-use Rattle.attempt.specs.Speeds.{speedHeld, SpeedHeld}
-use Rattle.attempt.specs.Runs.{Taken, speedsIn, countsAfter}
+use Rattle.attempt.specs.Speeds.{speedAt, speedHeld, SpeedHeld}
+use Rattle.attempt.specs.Counting.{rowOf, allOf}
+use Rattle.attempt.specs.Runs.{Taken, outs, speeds, runOf, countsAfter}
 
 -- What each outcome of steps 2 and 3 says of c and the second, at every stage: a second that is not void and does not wait is neither
 -- over range in codes 4 to 7 nor diluted, and at c = 0 its speed is above 10.
@@ -60,11 +62,20 @@ NextMost =
 
 -- "each of those ten speeds .. at most 0.8 km/h below second 1's"
 abbrev pub HeldExactly : Type 0
-HeldExactly = (speeds : List ℕ) → (speedHeld speeds ≡ true) ↔ SpeedHeld speeds
+HeldExactly = (l : List ℕ) → (speedHeld l ≡ true) ↔ SpeedHeld l
 
--- What the counts keep of it is so of the seconds themselves, for every list of seconds and windows: of those of this t, so that a restart forgets a dip.
-abbrev pub HeldTold : Type 0
-HeldTold = (l : List Taken) → (countsAfter l .held ≡ true) ↔ SpeedHeld (speedsIn l)
+-- The counts are those of the seconds of this t themselves, and what is kept of the speed drop is so of their speeds: a restart forgets a dip.
+pub record RunTold (l : List Taken) : Type 0 where
+  -- t is held at the greatest number of its byte, which no test reaches
+  pub t : countsAfter l .seconds ≡ min (length (runOf l)) 255
+  pub u : countsAfter l .row ≡ rowOf (outs (runOf l))
+  pub w : countsAfter l .all ≡ allOf (outs (runOf l))
+  pub first : countsAfter l .first ≡ speedAt 1 (speeds (runOf l))
+  pub held : (countsAfter l .held ≡ true) ↔ SpeedHeld (speeds (runOf l))
+
+-- For every list of seconds and windows.
+abbrev pub CountsTold : Type 0
+CountsTold = (l : List Taken) → RunTold l
 
 -- What each outcome of the ending rule says of t, the windows and whether the speed held.
 abbrev pub RuleSays : ℕ → WindowCounts → Bool → Ending → Type 0

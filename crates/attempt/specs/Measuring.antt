@@ -5,7 +5,7 @@ use lib.Dec.{ltb, eqb}
 use Rattle.refusal.specs.Choice.{pick}
 use Rattle.attempt.specs.declared.MeasuringCounts.{MeasuringCounts}
 use Rattle.attempt.specs.Counting.{bump, inRow, inAll}
-use Rattle.attempt.specs.Speeds.{notBelow}
+use Rattle.attempt.specs.Speeds.{heldAt}
 
 -- "Measuring, begun with t, u, w 0 and no windows": no window is kept, none of the last ten seconds is of this run, and no speed has dropped.
 abbrev pub noMeasuring : MeasuringCounts
@@ -21,11 +21,11 @@ noMeasuring = record {
 
 -- The speed of measured second 1, kept from then on.
 unfoldable pub firstSpeed : ℕ → ℕ → ℕ → ℕ
-firstSpeed t speed kept = pick (eqb t 1) speed kept
+firstSpeed t speed first = pick (eqb t 1) speed first
 
--- Whether the speed has held up to this second: past second 10 it no longer counts. What it comes to over a run's seconds is `Laws: HeldTold`.
+-- Whether the speed has held up to this second: past second 10 a speed counts no more. What it comes to over the seconds of this t is `Laws: CountsTold`.
 abbrev pub stillHeld : ℕ → ℕ → ℕ → Bool → Bool
-stillHeld t first speed held = (ltb 10 t || notBelow first speed) && held
+stillHeld t first speed held = (ltb 10 t || heldAt first speed) && held
 
 -- "t grows by 1", u counts out seconds in a row and w in all; second 1's speed is kept, and whether the speed has held.
 unfoldable pub tallied : Bool → ℕ → MeasuringCounts → MeasuringCounts

@@ -1,4 +1,4 @@
--- The speed drop (document 02, A.4): "the drop counts at every second from 1 to 10." The speeds are those of a run, the seconds of this t, newest first.
+-- The speed drop (document 02, A.4): "the drop counts at every second from 1 to 10." The speeds are those of the seconds of this t, newest first.
 use Prim.Native.Nat.{ℕ, suc, _+_, _-_, _≤_}
 use mathlib.Core.Bool.{Bool, true, _&&_}
 use mathlib.Core.List.{List, [], _∷_}
@@ -15,18 +15,18 @@ speedAt k (speed ∷ l) = pick (eqb (suc (length l)) k) speed (speedAt k l)
 unfoldable pub firstTen : List ℕ → List ℕ
 firstTen speeds = drop (length speeds - 10) speeds
 
--- "at most 0.8 km/h below second 1's": 8 units.
-abbrev pub notBelow : ℕ → ℕ → Bool
-notBelow first speed = leb first (speed + 8)
+-- A speed "at most 0.8 km/h below second 1's": 8 units.
+abbrev pub heldAt : ℕ → ℕ → Bool
+heldAt first speed = leb first (speed + 8)
 
 -- Each of these speeds is.
-unfoldable pub noneBelow : ℕ → List ℕ → Bool
-noneBelow first [] = true
-noneBelow first (speed ∷ l) = notBelow first speed && noneBelow first l
+unfoldable pub allHeld : ℕ → List ℕ → Bool
+allHeld first [] = true
+allHeld first (speed ∷ l) = heldAt first speed && allHeld first l
 
 -- "An early pass now needs each of those ten speeds to be at most 0.8 km/h below second 1's."
 unfoldable pub speedHeld : List ℕ → Bool
-speedHeld speeds = noneBelow (speedAt 1 speeds) (firstTen speeds)
+speedHeld speeds = allHeld (speedAt 1 speeds) (firstTen speeds)
 
 -- The same in numbers: of each of seconds 1 to 10, as far as there are so many.
 abbrev pub SpeedHeld : List ℕ → Type 0

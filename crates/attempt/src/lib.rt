@@ -23,7 +23,7 @@ ghost use Rattle.attempt.specs.Laws.{
   FirstMost,
   NextMost,
   HeldExactly,
-  HeldTold,
+  CountsTold,
   RuledExactly,
 };
 use reading::Second;
@@ -252,13 +252,13 @@ pub fn second_two(v: Vehicle, s: Second, k: SettlingCounts) -> SettlingCounts
     settled_two(near, ready_counted(ready(v, Mode::Two, s), k))
 }
 
-fn first_speed(t: u8, speed: u16, kept: u16) -> u16
-    ensures { λ r. ⌜ r ≡ firstSpeed t speed kept ⌝ }
+fn first_speed(t: u8, speed: u16, first: u16) -> u16
+    ensures { λ r. ⌜ r ≡ firstSpeed t speed first ⌝ }
 {
     if t == 1 {
         return speed;
     }
-    kept
+    first
 }
 
 fn still_held(t: u8, first: u16, speed: u16, held: bool) -> bool
@@ -270,7 +270,7 @@ fn still_held(t: u8, first: u16, speed: u16, held: bool) -> bool
 // A measured second, before its window is judged.
 // Ruled out: t that stays, the drop looked at in second 10 alone, and a drop from the second before.
 pub fn tallied(out: bool, speed: u16, k: MeasuringCounts) -> MeasuringCounts
-    ensures { λ r. ⌜ (r ≡ tallied out speed k) × HeldTold × HeldExactly ⌝ }
+    ensures { λ r. ⌜ (r ≡ tallied out speed k) × CountsTold × HeldExactly ⌝ }
 {
     let t = bump(k.seconds);
     let windows = k.windows;
@@ -318,7 +318,7 @@ pub fn restarts(k: MeasuringCounts) -> bool
 // The counts of measuring, begun anew where it restarts.
 // Ruled out: a dip of before the restart that is kept, and windows of before it.
 pub fn restarted(k: MeasuringCounts) -> MeasuringCounts
-    ensures { λ r. ⌜ (r ≡ restarted k) × HeldTold ⌝ }
+    ensures { λ r. ⌜ (r ≡ restarted k) × CountsTold ⌝ }
 {
     if restarts(k) {
         return NO_MEASURING;

@@ -1,7 +1,7 @@
 -- Rest and settling leave all that holds of a test standing. Assumes nothing.
 use Prim.Native.Nat.{ℕ, _-_, _≤_, _<_}
 use native.Mathlib.Omega.{arith}
-use mathlib.Core.Bool.{Bool, false, _&&_}
+use mathlib.Core.Bool.{Bool, false, _&&_, true≢false}
 use mathlib.Core.Path.{_≡_, refl, sym, ap, subst, subst⁻¹}
 use mathlib.Core.List.{List, [], _∷_}
 use lib.Dec.{leb, ltb, eqb}
@@ -22,17 +22,16 @@ use Rattle.loaded_test.specs.declared.VoidCounts.{VoidCounts}
 use Rattle.attempt.specs.declared.SettlingCounts.{SettlingCounts}
 use Rattle.loaded_test.specs.declared.Progress.{Progress}
 use Rattle.loaded_test.specs.State.{emptied, turn, withCounted, withResting, withSettling}
-use Rattle.attempt.specs.Counting.{inRow}
+use Rattle.attempt.specs.Counting.{inRow, rowOf, allOf}
 use Rattle.loaded_test.specs.Rest.{restCount, rested}
 use Rattle.attempt.specs.Settling.{secondOne, secondTwo}
-use Rattle.attempt.proofs.Tests.{nonsense, or-left}
+use Rattle.attempt.proofs.Tests.{or-left}
 use Rattle.attempt.specs.Laws.{Settled}
 use Rattle.attempt.proofs.Most.{row-most, first-most, next-most}
 use Rattle.loaded_test.specs.Settling.{measuringFrom, settlingLeft, closedOne, closedTwo, settlesIn, settles}
 use Rattle.loaded_test.specs.Log.{Entry, Input}
 use Rattle.loaded_test.specs.Claim.{modeAfter, modeIn, begins, voids, InAttempt, begun, goesOn, none, noSecond, attemptIn}
-use Rattle.attempt.specs.Speeds.{speedAt, firstTen, noneBelow, speedHeld}
-use Rattle.attempt.specs.Runs.{rowOf, allOf}
+use Rattle.attempt.specs.Speeds.{speedAt, firstTen, allHeld, speedHeld}
 use Rattle.loaded_test.specs.Windows.{outRow, longestOut, outAll, passingIn, failingIn}
 use Rattle.loaded_test.specs.Sheet.{tGoing, tAfter, runIn}
 use Rattle.loaded_test.proofs.Runs.{oldest-none}
@@ -50,7 +49,7 @@ quiet-voids Nothing l e = refl
 quiet-voids MeasuringBegan l e = refl
 quiet-voids (Measured t) l e = refl
 quiet-voids Restarted l e = refl
-quiet-voids (Voided n) l e = absurd (nonsense e)
+quiet-voids (Voided n) l e = absurd (true≢false e)
 
 -- An entry that voids nothing and after which the attempt goes on leaves the log's mode and voids.
 pub told-on :
@@ -108,7 +107,7 @@ module _ (v : Vehicle) (i : Input) (log : List Entry) (last : List window.Measur
       InAttempt log →
       Counts (i ∷ attemptIn log) (p .counted) →
       Good v i log last (turn MeasuringBegan GoesOn (measuringFrom p))
-  unfolding voids tallyOf outRow longestOut outAll rowOf allOf passingIn failingIn speedAt firstTen noneBelow speedHeld someValid runIn tAfter tGoing
+  unfolding voids tallyOf outRow longestOut outAll rowOf allOf passingIn failingIn speedAt firstTen allHeld speedHeld someValid runIn tAfter tGoing
   began-good p told bounds least attempt counting = record {
     stage = record {
       told = told-on i log MeasuringBegan refl told;

@@ -1,7 +1,7 @@
 -- A test that runs takes every second and every stop of a fit cause, and runs on but where a verdict was told; one that does not run
 -- refuses both. Assumes nothing.
 use Prim.Native.Nat.{ℕ}
-use mathlib.Core.Bool.{Bool, true, false, not, _||_}
+use mathlib.Core.Bool.{Bool, true, false, not, _||_, true≢false}
 use mathlib.Core.Path.{_≡_, refl, sym, ap, _∙_, subst}
 use lib.Dec.{eqb}
 use Rattle.refusal.specs.Choice.{pick}
@@ -19,7 +19,6 @@ use Rattle.attempt.specs.declared.Ending.the-variants.{NotYet, Passes, ModeEnds
 use Rattle.attempt.specs.declared.SettlingCounts.{SettlingCounts}
 use Rattle.attempt.specs.declared.MeasuringCounts.{MeasuringCounts}
 use Rattle.attempt.specs.Measuring.{restarts}
-use Rattle.attempt.proofs.Tests.{nonsense}
 use Rattle.loaded_test.specs.declared.Word.{Word}
 use Rattle.loaded_test.specs.declared.Verdict.{Verdict}
 use Rattle.loaded_test.specs.declared.Did.{Did}
@@ -52,7 +51,7 @@ record Level (x : Turn) : Type 0 where
 open-level :
     (x : Turn) → isRunning (x .progress .stage) ≡ true → endsIn (x .next) ≡ false → Level x
 unfolding endsIn
-open-level x e f = record { stage = rw (e, f); verdict = λ v q. absurd (nonsense (sym (ap endsIn q) ∙ f)) }
+open-level x e f = record { stage = rw (e, f); verdict = λ v q. absurd (true≢false (sym (ap endsIn q) ∙ f)) }
 
 ended-level : (d : Did) (w : Word) (k : VoidCounts) (p : Progress) → Level (ended d w k p)
 unfolding isRunning endsIn
@@ -136,12 +135,12 @@ at-goes :
     isRunning st ≡ true →
     Goes (secondAt st x s)
 unfolding secondAt isRunning settles measured
-at-goes x s NotBegun e o = absurd (nonsense (sym o))
+at-goes x s NotBegun e o = absurd (true≢false (sym o))
 at-goes x s Settling e o =
     attempt-goes x _ _ e (turned x _ (settles-level (counted (x .progress)) e (x .progress .mode) (x .vehicle) s))
 at-goes x s Measuring e o = attempt-goes x _ _ e (measures-goes (counted (x .progress)) e x _ _)
 at-goes x s Rest e o = turned x _ (rest-level (x .progress) e _)
-at-goes x s (Ended w) e o = absurd (nonsense (sym o))
+at-goes x s (Ended w) e o = absurd (true≢false (sym o))
 
 pub second-goes : (x : Test) (s : Second) → isRunning (x .progress .stage) ≡ true → Goes (second x s)
 unfolding second
@@ -162,9 +161,9 @@ stop-refused x n f e = rw (e, f)
 idle-at : (x : Test) (s : Second) (st : Stage) → isRunning st ≡ false → secondAt st x s ≡ refused noTest x
 unfolding secondAt isRunning
 idle-at x s NotBegun e = refl
-idle-at x s Settling e = absurd (nonsense e)
-idle-at x s Measuring e = absurd (nonsense e)
-idle-at x s Rest e = absurd (nonsense e)
+idle-at x s Settling e = absurd (true≢false e)
+idle-at x s Measuring e = absurd (true≢false e)
+idle-at x s Rest e = absurd (true≢false e)
 idle-at x s (Ended w) e = refl
 
 pub second-idle : (x : Test) (s : Second) → isRunning (x .progress .stage) ≡ false → second x s ≡ refused noTest x

@@ -1,7 +1,7 @@
 -- The pass claim and the laws, for every list of seconds and stops from the beginning of a test. Assumes nothing.
 use Prim.Native.Nat.{ℕ, suc, _≤_, _<_}
 use native.Mathlib.Omega.{arith}
-use mathlib.Core.Bool.{Bool, true, false, _||_}
+use mathlib.Core.Bool.{Bool, true, false, _||_, true≢false}
 use mathlib.Core.Path.{_≡_, refl, sym, ap, _∙_, subst, subst⁻¹}
 use mathlib.Core.List.{List, [], _∷_, _++_, map}
 use lib.Dec.{eqb}
@@ -32,7 +32,6 @@ use Rattle.loaded_test.specs.Windows.{windowOf}
 use Rattle.loaded_test.specs.Log.{Entry, Input, aSecond, aStop, step, replay, logged, logOf}
 use Rattle.loaded_test.specs.Claim.{modeIn, Measures, voids, Clean, atStart, goesOn, attemptIn, PassClaim}
 use Rattle.loaded_test.specs.Laws.{Bounded, voidsIn, ninesIn, VoidClaim, IncompleteClaim, FailClaim, LastTen}
-use Rattle.attempt.proofs.Tests.{nonsense}
 use Rattle.loaded_test.proofs.Counting.{Counts, none-counted, attempt-goes, waits-on, counts-on}
 use Rattle.loaded_test.proofs.Holding.{mostSettling, settling-most, Told, Open, Settles, Runs, AtStage, Good, entry, Stands, Kept}
 use Rattle.loaded_test.proofs.Voiding.{voided-good}
@@ -205,7 +204,7 @@ module _ (x : Test) (log : List Entry) where
       stop-taken n true (h .told) (h .bounds)
       (λ _. subst⁻¹ (λ (y : Stage). AtStage y (x .vehicle) (entry (aStop n) (nothing (x .progress)) ∷ log) (x .progress) (x .last)) e
       (record { told = told-on (aStop n) log Nothing refl (h .told); bounds = h .bounds }))
-  stop-at n (Ended w) e h c = absurd (nonsense (sym c))
+  stop-at n (Ended w) e h c = absurd (true≢false (sym c))
 
   stop-good : (n : ℕ) → Stands (x .vehicle) log x → Kept (x .vehicle) (aStop n) log (stop x n)
   unfolding stop

@@ -31,9 +31,9 @@ use Rattle.attempt.specs.declared.Ending.the-variants.{NotYet, Passes}
 use Rattle.loaded_test.specs.declared.Test.{Test}
 use Rattle.loaded_test.specs.State.{turn, withCounted, withMeasuring, stepped, steppedWith}
 use Rattle.loaded_test.specs.Voids.{ended, stepFive}
-use Rattle.attempt.specs.Speeds.{speedAt, firstTen, noneBelow, speedHeld, SpeedHeld}
+use Rattle.attempt.specs.Speeds.{speedAt, firstTen, allHeld, speedHeld, SpeedHeld}
 use Rattle.attempt.specs.Measuring.{noMeasuring, tallied, windowCounted, restarts}
-use Rattle.attempt.specs.Runs.{rowOf, allOf}
+use Rattle.attempt.specs.Counting.{rowOf, allOf}
 use Rattle.attempt.specs.Laws.{RuleSays}
 use Rattle.loaded_test.specs.Measuring.{closed, concluded, windowTaken, windowJudged, judged, measures}
 use Rattle.loaded_test.specs.Windows.{outOf, outRow, longestOut, outAll, passingIn, failingIn, speedsOf, endingOf}
@@ -259,7 +259,7 @@ module _
     -- At u = 3 or w = 6 the run is empty again, and the attempt goes on.
     restart-goes :
         p .counted ≤ 144 → Good v (aSecond s) log last (turn Restarted GoesOn (withMeasuring noMeasuring p))
-    unfolding voids tallyOf outRow longestOut outAll rowOf allOf passingIn failingIn speedAt firstTen noneBelow speedHeld someValid runIn tAfter tGoing
+    unfolding voids tallyOf outRow longestOut outAll rowOf allOf passingIn failingIn speedAt firstTen allHeld speedHeld someValid runIn tAfter tGoing
     restart-goes c =
         let o = h .bounds in
         record {

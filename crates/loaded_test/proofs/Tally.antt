@@ -15,9 +15,8 @@ use Rattle.vehicle.specs.declared.Mode.{Mode}
 use Rattle.window.specs.declared.Measured.{Measured}
 use Rattle.window.specs.Measuring.{measuredOf, windowValid}
 use Rattle.window.specs.Judging.{windowPasses}
-use Rattle.attempt.specs.Counting.{bump, inRow, inAll}
+use Rattle.attempt.specs.Counting.{bump, inRow, inAll, rowOf, allOf}
 use Rattle.attempt.specs.Measuring.{tallied, windowCounted}
-use Rattle.attempt.specs.Runs.{rowOf, allOf}
 use Rattle.loaded_test.specs.Measuring.{windowTaken}
 use Rattle.loaded_test.specs.Windows.{outOf, outRow, outAll, windowOf, validHere, passesHere, failsHere, passingIn, failingIn, speedsOf}
 use Rattle.loaded_test.proofs.Holding.{someValid, tallyOf}

@@ -1,7 +1,7 @@
 -- A void, the end of a mode and step 5 leave all that holds of a test standing. Assumes nothing.
 use Prim.Native.Nat.{ℕ, suc, _-_, _≤_, _<_}
 use native.Mathlib.Omega.{arith}
-use mathlib.Core.Bool.{true, false}
+use mathlib.Core.Bool.{true, false, true≢false}
 use mathlib.Core.Path.{_≡_, refl, sym, ap, _∙_, subst}
 use mathlib.Core.List.{List, _∷_}
 use mathlib.Core.Logic.{_⊎_, inl}
@@ -28,7 +28,6 @@ use Rattle.loaded_test.specs.Voids.{ended, modeEnded, voidCounted, voidN
 use Rattle.loaded_test.specs.Log.{Entry, Input}
 use Rattle.loaded_test.specs.Claim.{modeAfter, modeIn, begins, voids, begun}
 use Rattle.loaded_test.specs.Laws.{Bounded, voidAdded, voidsKept, voidsIn, ninesIn, ModeOver}
-use Rattle.attempt.proofs.Tests.{nonsense}
 use Rattle.loaded_test.proofs.Counting.{attempt-begins}
 use Rattle.loaded_test.proofs.Holding.{mostSettling, Told, Claims, Good, entry}
 
@@ -87,7 +86,7 @@ module _ (v : Vehicle) (i : Input) (log : List Entry) where
   unfolding voids
   silent x quiet endless = record {
     pass = λ t passing failing e. absurd (endless _ e);
-    void = λ n e. absurd (nonsense (sym (ap voids e) ∙ quiet));
+    void = λ n e. absurd (true≢false (sym (ap voids e) ∙ quiet));
     incomplete = λ w. absurd (endless (w .0) (w .1));
     fail = λ y e w. absurd (endless y e);
   }

@@ -120,7 +120,7 @@ abbrev pub NotYetIn : Vehicle → Mode → List Second → Type 0
 NotYetIn v mode [] = Unit {0}
 NotYetIn v mode (s ∷ l) = (endingOf v mode (s ∷ l) ≡ NotYet) × NotYetIn v mode l
 
--- The same in numbers: at none of them is t = 90, nor are there 25 ≤ t, passing ≥ 15 and the speed held.
+-- The same in numbers: at none of them is t = 90, and at none do 25 ≤ t, passing ≥ 15 and a speed that held come together.
 abbrev pub NotEndedIn : Vehicle → Mode → List Second → Type 0
 NotEndedIn v mode [] = Unit {0}
 NotEndedIn v mode (s ∷ l) =

@@ -14,7 +14,7 @@ use Rattle.window.specs.Judging.{windowPasses}
 use Rattle.attempt.specs.declared.Ending.{Ending}
 use Rattle.attempt.specs.Ending.{endingRule}
 use Rattle.attempt.specs.Speeds.{speedHeld}
-use Rattle.attempt.specs.Runs.{rowOf, allOf}
+use Rattle.attempt.specs.Counting.{rowOf, allOf}
 
 -- "Out" is speed more than 15 from target or load out of tolerance.
 abbrev pub outOf : Vehicle → Mode → Second → Bool

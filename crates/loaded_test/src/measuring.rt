@@ -139,7 +139,7 @@ fn pushed(m: Measured, a: [Measured; 10]) -> [Measured; 10]
     [m, a[0], a[1], a[2], a[3], a[4], a[5], a[6], a[7], a[8]]
 }
 
-fn restarted(x: Test, k: MeasuringCounts, p: Progress) -> Stepped
+fn begun_anew(x: Test, k: MeasuringCounts, p: Progress) -> Stepped
     ensures { λ r. ⌜ r ≡ stepped x (stepFive Restarted (withMeasuring (restarted k) p)) ⌝ }
 {
     let mut q = p;
@@ -152,7 +152,7 @@ fn measures(x: Test, m: Measured, k: MeasuringCounts, p: Progress) -> Stepped
     ensures { λ r. ⌜ r ≡ measures x m k p ⌝ }
 {
     if restarts(k) {
-        return restarted(x, k, p);
+        return begun_anew(x, k, p);
     }
     let a = x.last;
     let last = pushed(m, a);

@@ -9,12 +9,12 @@ use Rattle.loaded_test.proofs.measuring.measures.Tie as tie
 restarts-requires : tie.Need-restarts-requires
 restarts-requires c κs = search needs
 
-restarted-requires : tie.Need-restarted-requires
-restarted-requires c κs = search needs
+begun-anew-requires : tie.Need-begun-anew-requires
+begun-anew-requires c κs = search needs
 
 returns : tie.Need-returns
 unfolding measures pick
-returns c = simp (← c .before .before .restarts .ensures, c .before .if1 .taken) (c .restarted .ensures)
+returns c = simp (← c .before .before .restarts .ensures, c .before .if1 .taken) (c .begun-anew .ensures)
 
 pushed-requires : tie.Need-pushed-requires
 pushed-requires c κs = search needs
@@ -34,7 +34,7 @@ measures-spec =
     tie.close
     (tie.spec
     restarts-requires
-    restarted-requires
+    begun-anew-requires
     returns
     pushed-requires
     window-taken-requires

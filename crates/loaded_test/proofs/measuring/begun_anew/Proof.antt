@@ -1,8 +1,8 @@
--- `measuring::restarted` meets its contract. Assumes nothing.
+-- `measuring::begun_anew` meets its contract. Assumes nothing.
 use mathlib.Core.Path.{_∙_}
 use borrow.Author.Needs.{needs}
-use Rattle.loaded_test.proofs.measuring.restarted.Statement.{statement}
-use Rattle.loaded_test.proofs.measuring.restarted.Tie as tie
+use Rattle.loaded_test.proofs.measuring.begun_anew.Statement.{statement}
+use Rattle.loaded_test.proofs.measuring.begun_anew.Tie as tie
 
 restarted-requires : tie.Need-restarted-requires
 restarted-requires c κs = search needs
@@ -16,5 +16,5 @@ stepped-requires c κs = search needs
 returns : tie.Need-returns
 returns c = c .stepped .ensures ∙ simp (c .before .step-five .ensures, c .before .before .restarted .ensures .0)
 
-pub restarted-spec : {M : Type 1} → statement M
-restarted-spec = tie.close (tie.spec restarted-requires step-five-requires stepped-requires returns)
+pub begun-anew-spec : {M : Type 1} → statement M
+begun-anew-spec = tie.close (tie.spec restarted-requires step-five-requires stepped-requires returns)
