@@ -11,7 +11,7 @@ use Rattle.refusal.specs.Choice.{pick}
 use Rattle.refusal.proofs.Picked.{on-pick}
 use Rattle.attempt.specs.Speeds.{speedAt, firstTen, heldAt, allHeld, speedHeld}
 use Rattle.attempt.specs.Measuring.{firstSpeed, stillHeld}
-use Rattle.attempt.specs.Laws.{HeldExactly}
+use Rattle.attempt.specs.Laws.{HeldExactly, HeldMore}
 use Rattle.attempt.proofs.Tests.{and-left, and-right}
 
 at-newest : (speed : ℕ) (l : List ℕ) → speedAt (suc (length l)) (speed ∷ l) ≡ speed
@@ -105,10 +105,7 @@ all-held-first speed [] = refl
 all-held-first speed (x ∷ l) =
     ap (λ (first : ℕ). allHeld first (x ∷ l)) (at-older 1 speed (x ∷ l) (omega arith))
 
-pub held-more :
-    (t speed : ℕ) (l : List ℕ) →
-    t ≡ min (suc (length l)) 255 →
-    stillHeld t (speedAt 1 (speed ∷ l)) speed (speedHeld l) ≡ speedHeld (speed ∷ l)
+pub held-more : HeldMore
 unfolding speedHeld allHeld
 held-more t speed l h = go (leb (length l) 9) refl
   where

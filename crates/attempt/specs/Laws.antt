@@ -1,8 +1,8 @@
 -- What is claimed of the rules of an attempt, in numbers. Each claim is carried by the contract of the function that it is about.
-use Prim.Native.Nat.{ℕ, _≤_, _<_, min}
+use Prim.Native.Nat.{ℕ, suc, _≤_, _<_, min}
 use mathlib.Core.Bool.{Bool, true, false}
 use mathlib.Core.Path.{_≡_}
-use mathlib.Core.List.{List}
+use mathlib.Core.List.{List, _∷_}
 use mathlib.Core.Logic.{_⊎_, _↔_}
 use lib.ListN.{length}
 use Rattle.reading.specs.declared.Second.{Second}
@@ -21,6 +21,7 @@ use Rattle.attempt.specs.Settling.{secondOne, secondTwo}
 use Rattle.attempt.specs.Ending.{endingRule}
 use Rattle.attempt.specs.Speeds.{speedAt, speedHeld, SpeedHeld}
 use Rattle.attempt.specs.Counting.{rowOf, allOf}
+use Rattle.attempt.specs.Measuring.{stillHeld}
 use Rattle.attempt.specs.Runs.{Taken, outs, speeds, runOf, countsAfter}
 
 -- What each outcome of steps 2 and 3 says of c and the second, at every stage: a second that is not void and does not wait is neither
@@ -63,6 +64,14 @@ NextMost =
 -- "each of those ten speeds .. at most 0.8 km/h below second 1's"
 abbrev pub HeldExactly : Type 0
 HeldExactly = (l : List ℕ) → (speedHeld l ≡ true) ↔ SpeedHeld l
+
+-- One second more: what is kept of the speed drop before it and its own speed give what is so of all the speeds. The pass claim rests on this,
+-- and `CountsTold` does. Its number t is held at the greatest of its byte.
+abbrev pub HeldMore : Type 0
+HeldMore =
+    (t speed : ℕ) (l : List ℕ) →
+    t ≡ min (suc (length l)) 255 →
+    stillHeld t (speedAt 1 (speed ∷ l)) speed (speedHeld l) ≡ speedHeld (speed ∷ l)
 
 -- The counts are those of the seconds of this t themselves, and what is kept of the speed drop is so of their speeds: a restart forgets a dip.
 pub record RunTold (l : List Taken) : Type 0 where

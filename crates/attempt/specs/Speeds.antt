@@ -19,7 +19,7 @@ firstTen speeds = drop (length speeds - 10) speeds
 abbrev pub heldAt : ℕ → ℕ → Bool
 heldAt first speed = leb first (speed + 8)
 
--- Each of these speeds is.
+-- Each of these speeds is at most 8 below.
 unfoldable pub allHeld : ℕ → List ℕ → Bool
 allHeld first [] = true
 allHeld first (speed ∷ l) = heldAt first speed && allHeld first l

@@ -23,6 +23,7 @@ ghost use Rattle.attempt.specs.Laws.{
   FirstMost,
   NextMost,
   HeldExactly,
+  HeldMore,
   CountsTold,
   RuledExactly,
 };
@@ -270,7 +271,7 @@ fn still_held(t: u8, first: u16, speed: u16, held: bool) -> bool
 // A measured second, before its window is judged.
 // Ruled out: t that stays, the drop looked at in second 10 alone, and a drop from the second before.
 pub fn tallied(out: bool, speed: u16, k: MeasuringCounts) -> MeasuringCounts
-    ensures { λ r. ⌜ (r ≡ tallied out speed k) × CountsTold × HeldExactly ⌝ }
+    ensures { λ r. ⌜ (r ≡ tallied out speed k) × CountsTold × HeldMore × HeldExactly ⌝ }
 {
     let t = bump(k.seconds);
     let windows = k.windows;

@@ -1,6 +1,6 @@
 -- `tallied` meets its contract. Assumes nothing.
 use Rattle.attempt.proofs.Runs.{counts-told}
-use Rattle.attempt.proofs.Speeds.{held-exactly}
+use Rattle.attempt.proofs.Speeds.{held-exactly, held-more}
 use Rattle.attempt.specs.Measuring.{tallied}
 use borrow.Author.Needs.{needs}
 use Rattle.attempt.proofs.tallied.Statement.{statement}
@@ -23,7 +23,7 @@ still-held-requires c κs = search needs
 
 returns : tie.Need-returns
 unfolding tallied
-returns c = (simp (c .before .before .before .before .before .bump .ensures, c .before .before .in-row .ensures, c .before .in-all .ensures, c .before .before .before .first-speed .ensures, c .still-held .ensures), counts-told, held-exactly)
+returns c = (simp (c .before .before .before .before .before .bump .ensures, c .before .before .in-row .ensures, c .before .in-all .ensures, c .before .before .before .first-speed .ensures, c .still-held .ensures), counts-told, held-more, held-exactly)
 
 pub tallied-spec : {M : Type 1} → statement M
 tallied-spec =
