@@ -2,6 +2,7 @@
 
 use crate::bench::{Bench, Event};
 use crate::journal::{ready_bench, WRONG};
+use crate::make_prepares::PREPARED;
 use crate::make_runs::PASSED_RUNS;
 use crate::modes::answer_line;
 use crate::numbers::{MISSING, OVER};
@@ -35,6 +36,7 @@ pub fn after_tries(tries: &[Event]) -> Vec<(u32, Event)> {
         (10, Event::Calibration(true)),
         (10, PASSED_RUNS[0]),
         (10, PASSED_RUNS[1]),
+        (10, PREPARED),
         (10, START),
     ]);
     events
@@ -72,7 +74,7 @@ pub fn check_locks(checks: &mut Checks) {
     let long = 2_592_000;
     same("admitted", long, &[(100, START)], "ok");
     same("lock 1", long, &[(100, Event::PowerOn), (100, START)], "refused 14 1");
-    same("1,800 s", long, &[(1900, START)], "ok");
+    same("1,800 s", long, &[(1900, PREPARED), (1900, START)], "ok");
     same("lock 2", long, &[(1901, START)], "refused 14 2");
     same("V", 60, &[(160, START)], "ok");
     same("lock 3", 60, &[(161, START)], "refused 14 3");
@@ -106,7 +108,7 @@ pub fn check_locks(checks: &mut Checks) {
 }
 
 /// A whole pass on the bench: start and 36 seconds, one a second.
-fn passing_test(at: u32) -> Vec<(u32, Event)> {
+pub fn passing_test(at: u32) -> Vec<(u32, Event)> {
     let mut events = vec![(at, START)];
     events.extend((1..=36).map(|i| (at + i, Event::Second(good_bits()))));
     events
@@ -128,7 +130,7 @@ pub fn check_bench(checks: &mut Checks) {
     checks.same("lock 7", after(&[(200, START)]), "refused 14 7".into());
     checks.same(
         "upload",
-        after(&[(200, Event::Upload), (200, START)]),
+        after(&[(200, Event::Upload), (200, PREPARED), (200, START)]),
         "ok".into(),
     );
     let unlock = after(&[(200, Event::AuthorityUnlock), (200, START)]);
@@ -136,7 +138,7 @@ pub fn check_bench(checks: &mut Checks) {
     let upload = (200, Event::Upload);
     checks.same(
         "seconds renew lock 2",
-        after(&[upload, (1936, START)]),
+        after(&[upload, (1936, PREPARED), (1936, START)]),
         "ok".into(),
     );
     checks.same(

@@ -5,6 +5,7 @@ use crate::bench::Event;
 use crate::coast_down::Run;
 use crate::items::Items;
 use crate::journal::ready_bench;
+use crate::make_prepares::PREPARED;
 use crate::make_runs::{passing_ms, run, PASSED_RUNS};
 use crate::make_tests::put_event;
 use crate::own_asserts::Checks;
@@ -89,7 +90,7 @@ pub fn check_run_locks(checks: &mut Checks) {
     let mut same = |name: &str, events: &[Event], want: &str| {
         checks.same(name, start_after(events), want.to_string());
     };
-    let again = [Event::WarmUp, Event::Calibration(true), Event::Try(Some(1_000_000))];
+    let again = [Event::WarmUp, Event::Calibration(true), Event::Try(Some(1_000_000)), PREPARED];
     let voided = |by: Event, then: &[Event]| [&[FASTER, SLOWER, by], &again[..], then].concat();
     same("no run", &[], "refused 14 3");
     same("the faster run alone", &[FASTER], "refused 14 3");
@@ -130,7 +131,8 @@ pub fn check_run_ages(checks: &mut Checks) {
     let (warm, calibrated) = (Event::WarmUp, Event::Calibration(true));
     same("V counts from the calibration", &[(500, FASTER), (500, SLOWER), (1001, START)],
         "refused 14 3");
-    same("runs do not age", &[(1_000_000, warm), (1_000_000, calibrated), (1_000_000, START)], "ok");
+    let late = [warm, calibrated, PREPARED, START].map(|event| (1_000_000, event));
+    same("runs do not age", &late, "ok");
     same("runs do not renew lock 2", &[(1000, FASTER), (1000, SLOWER), (1901, calibrated),
         (1901, START)], "refused 14 2");
 }

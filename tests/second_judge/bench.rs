@@ -2,6 +2,7 @@
 
 use crate::coast_down::Run;
 use crate::numbers::{judge_readings, refusal, second_of, Refusal};
+use crate::prepare::Prepare;
 use crate::record::cause_fits;
 use crate::running::{Running, Step, Verdict};
 use crate::vehicle::Vehicle;
@@ -20,6 +21,7 @@ pub enum Event {
     Second([u32; 8]),
     Stop(u8),
     Run(Run),
+    Prepare(Prepare),
 }
 
 /// What the history keeps of an accepted event: what the locks read.
@@ -37,6 +39,7 @@ pub enum Kept {
     Second,
     Stop,
     Run(Run),
+    Prepare(Prepare),
 }
 
 impl Event {
@@ -54,6 +57,7 @@ impl Event {
             Event::Second(_) => Kept::Second,
             Event::Stop(_) => Kept::Stop,
             Event::Run(run) => Kept::Run(run),
+            Event::Prepare(prepare) => Kept::Prepare(prepare),
         }
     }
 }
@@ -120,7 +124,7 @@ impl Bench {
         }
     }
 
-    /// Refusals 4, 5, 15, 8, 16, 17, then 14; what an accepted event does to the test.
+    /// Refusals 4, 5, 15, 8, 16, 17, 18, then 14; what an accepted event does to the test.
     pub fn apply(&mut self, clock: u32, event: &Event) -> Answer {
         match event {
             Event::Start(settings, p) => {
@@ -133,6 +137,7 @@ impl Bench {
             Event::Second(_) | Event::Stop(_) => return self.step(event),
             Event::PowerOn => self.test = None,
             Event::Run(run) => run.check()?,
+            Event::Prepare(prepare) => prepare.check()?,
             _ => {}
         }
         Ok(None)
@@ -165,6 +170,7 @@ impl Bench {
             wrong_row(unlocked) >= 4,
             holds(unlocked, Kept::AuthorityLock),
             verdicts(unsent) == self.u as usize,
+            prepare_lacks(all, now),
         ];
         standing.iter().position(|stands| *stands).map(|i| i + 1)
     }
@@ -263,4 +269,27 @@ pub fn wrong_row(unlocked: &[Accepted]) -> usize {
 /// Lock 7.
 fn verdicts(unsent: &[Accepted]) -> usize {
     unsent.iter().filter(|a| a.verdict.is_some()).count()
+}
+
+/// What leaves no prepare in force: power-on and clock setting void it, a start uses it up.
+pub fn takes_prepare(kept: &Kept) -> bool {
+    matches!(kept, Kept::PowerOn | Kept::ClockSetting | Kept::Start)
+}
+
+/// Lock 8: no prepare in force, the latest does not stand, or is over 120 s old.
+pub fn prepare_lacks(all: &[Accepted], now: u32) -> bool {
+    let in_force = after_last(all, takes_prepare);
+    match latest_prepare(in_force) {
+        Some((i, prepare)) => !prepare.stands() || now - in_force[i].clock > 120,
+        None => true,
+    }
+}
+
+/// The latest prepare, and its place in the list.
+pub fn latest_prepare(list: &[Accepted]) -> Option<(usize, Prepare)> {
+    let mut last_first = list.iter().enumerate().rev();
+    last_first.find_map(|(i, a)| match a.kept {
+        Kept::Prepare(prepare) => Some((i, prepare)),
+        _ => None,
+    })
 }

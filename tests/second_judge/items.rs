@@ -2,6 +2,7 @@
 
 use crate::bench::Event;
 use crate::coast_down::Run;
+use crate::prepare::Prepare;
 use crate::record::{u16_at, u32_at};
 
 /// Little-endian items from a run of bytes; None at the end.
@@ -56,6 +57,13 @@ impl<'a> Items<'a> {
         })
     }
 
+    pub fn prepare(&mut self) -> Option<Prepare> {
+        Some(Prepare {
+            background: [self.u16()?, self.u16()?, self.u16()?],
+            residue: self.u16()? as i16, // two's complement
+        })
+    }
+
     /// A 4-byte length and that many bytes.
     pub fn record(&mut self) -> Option<&'a [u8]> {
         let length = self.u32()? as usize;
@@ -80,6 +88,7 @@ impl<'a> Items<'a> {
             10 => Event::Second(self.readings()?),
             11 => Event::Stop(self.u8()?),
             12 => Event::Run(self.run()?),
+            13 => Event::Prepare(self.prepare()?),
             _ => return None,
         })
     }

@@ -3,6 +3,7 @@
 use crate::bench::Event;
 use crate::dice::{some_settings, Dice};
 use crate::driver::unfit_bits;
+use crate::make_prepares::{unfit_prepare, PREPARED};
 use crate::make_runs::{failed_run, unfit_run, PASSED_RUNS};
 use crate::make_tests::{kind_of, unfit_second, unfit_start_at};
 use crate::script::{good_bits, Script};
@@ -13,12 +14,13 @@ pub const WRONG: Event = Event::Try(None);
 pub const SIGN_IN: Event = Event::Try(Some(u32::MAX));
 
 /// What leaves no lock standing where the coast-down runs are in order.
-const RENEWALS: [Event; 5] = [
+const RENEWALS: [Event; 6] = [
     Event::Upload,
     Event::AuthorityUnlock,
     Event::WarmUp,
     Event::Calibration(true),
     SIGN_IN,
+    PREPARED,
 ];
 
 /// What leaves no lock standing, at a clock, where no test is running.
@@ -118,7 +120,7 @@ impl Journal {
         self.after(late, Event::Stop(3));
     }
 
-    /// A fresh bench at clock 0: no test, then locks 1, 3 and 4 until each is lifted, and a pass.
+    /// A fresh bench at clock 0: no test, then locks 1, 3, 4 and 8 until each is lifted, and a pass.
     pub fn first_events(&mut self) {
         let unfit = unfit_second(true, &mut self.dice);
         self.add(&[
@@ -134,6 +136,8 @@ impl Journal {
             self.start();
         }
         self.add(&[WRONG, WRONG, WRONG, SIGN_IN]);
+        self.start();
+        self.after(0, PREPARED);
         let mut script = self.start();
         script.pass();
         self.play(&mut script);
@@ -157,7 +161,7 @@ impl Journal {
         self.play(&mut script);
     }
 
-    /// Lock 2 at 1,801 s, and none at 1,800 s: runs do not renew it.
+    /// Lock 2 at 1,801 s, and none at 1,800 s: runs and prepares do not renew it.
     pub fn idle_lock(&mut self) {
         for wait in [800, 801] {
             self.fresh();
@@ -271,7 +275,7 @@ impl Journal {
         self.after(0, Event::Stop(1));
     }
 
-    /// One event of each kind, and starts and a run that are unfit.
+    /// One event of each kind, and starts, a run and a prepare that are unfit.
     pub fn one_of_each(&mut self) -> Vec<Event> {
         let mut events = vec![
             Event::PowerOn,
@@ -287,18 +291,21 @@ impl Journal {
             Event::Stop(0),
             failed_run(true, &mut self.dice),
             unfit_run(&mut self.dice),
+            PREPARED,
+            unfit_prepare(&mut self.dice),
         ];
         events.extend([1, 8].map(|place| unfit_start_at(place, &mut self.dice)));
         events
     }
 
-    /// Starts with each setting unfit, and p: on a ready bench, and before any lock.
+    /// Starts with each setting unfit, and p: on a ready bench, whose prepare they leave, and before any lock.
     pub fn unfit_starts(&mut self) {
         self.fresh();
         for place in 1..=8 {
             let event = unfit_start_at(place, &mut self.dice);
             self.ahead(3, event);
         }
+        self.start();
         self.after(1, Event::PowerOn);
         for place in [1, 7, 8] {
             let event = unfit_start_at(place, &mut self.dice);
@@ -387,19 +394,23 @@ impl Journal {
     }
 
     /// Lock 7 after U verdicts, which no power-on in a test adds to and no
-    /// refused upload sends; unlock and power-on leave it.
+    /// refused upload sends; it goes before lock 8, and unlock and power-on leave it.
     pub fn unsent_lock(&mut self) {
         self.fresh();
         let mut script = self.start();
         self.good_second(&mut script);
         self.after(1, Event::PowerOn);
         self.ready_but(0, Event::Upload);
-        for _ in 0..self.u {
-            self.after(0, Event::Calibration(true));
+        for left in (0..self.u).rev() {
+            self.add(&[Event::Calibration(true), PREPARED]);
             let mut script = self.start();
-            self.ahead(100, Event::Upload);
+            if left == 0 {
+                self.ahead(100, Event::Upload);
+            }
             self.incomplete(&mut script, 1);
         }
+        self.after(0, Event::Calibration(true));
+        self.start();
         self.renew_but(0, Event::Upload);
         self.start();
         self.after(1, Event::PowerOn);
@@ -426,6 +437,7 @@ pub fn scripted_events(v: u32, u: u16, dice: &mut Dice) -> Vec<(u32, Event)> {
     journal.sign_in_lock();
     journal.password_lock();
     journal.authority_lock();
+    journal.prepares();
     journal.refused_in_a_test();
     journal.unfit_starts();
     journal.stops_and_clock();

@@ -2,6 +2,7 @@
 
 use crate::bench::Event;
 use crate::journal::{Journal, SIGN_IN, WRONG};
+use crate::make_prepares::PREPARED;
 use crate::make_runs::{failed_run, passed_run, passing_ms, run, PASSED_RUNS};
 
 /// Inertia and power: the ends of their ranges, the worked case, and one where
@@ -29,7 +30,7 @@ impl Journal {
 
     /// What a start needs after a power-on or clock setting, but the runs.
     fn ready_but_runs(&mut self) {
-        self.add(&[Event::WarmUp, Event::Calibration(true), SIGN_IN]);
+        self.add(&[Event::WarmUp, Event::Calibration(true), SIGN_IN, PREPARED]);
     }
 
     /// Lock 3 until the slower run and then the faster have passed.

@@ -4,6 +4,7 @@ use crate::bench::{calibration_lacks, run_lacks, since_power, Bench, Event};
 use crate::dice::{some_settings, Dice};
 use crate::driver::Driver;
 use crate::journal::scripted_events;
+use crate::make_prepares::{any_prepare, failed_prepare, standing_prepare, unfit_prepare};
 use crate::make_records::REACHING_RECORDS;
 use crate::make_runs::{any_run, failed_run, passed_run};
 use crate::make_tests::{put_event, unfit_second, unfit_start};
@@ -129,7 +130,7 @@ impl Planner {
     /// Any kind of event, with any fit or unfit fields.
     pub fn any_event(&mut self) -> Event {
         let dice = &mut self.dice;
-        match dice.below(14) {
+        match dice.below(15) {
             0 => Event::PowerOn,
             1 => Event::ClockSetting(dice.below(1_000_000) as u32),
             2 => Event::WarmUp,
@@ -143,6 +144,7 @@ impl Planner {
             10 => unfit_second(dice.percent(50), dice),
             11 => unfit_start(dice),
             12 => any_run(dice),
+            13 => any_prepare(dice),
             _ => self.start(),
         }
     }
@@ -178,7 +180,8 @@ impl Planner {
             }
             88 if bench.u < 20 => self.plan(1, Event::Upload),
             89 => self.plan(1, Event::AuthorityUnlock),
-            90..=93 => self.plan_run(),
+            90..=92 => self.plan_run(),
+            93..=94 => self.plan_prepare(),
             _ => {
                 let event = self.any_event();
                 self.plan_unless_upload(event);
@@ -205,6 +208,7 @@ impl Planner {
             }
             Some(5 | 6) if self.dice.percent(60) => self.plan(1, Event::AuthorityUnlock),
             Some(7) if self.dice.percent(60) => self.plan(1, Event::Upload),
+            Some(8) => self.plan_prepared_start(),
             _ => {
                 let start = self.start();
                 self.plan(0, start);
@@ -221,9 +225,35 @@ impl Planner {
         }
         self.plan_lacking_runs(bench);
         if self.dice.percent(30) {
-            let start = self.start();
-            self.plan(0, start);
+            self.plan_prepared_start();
         }
+    }
+
+    /// A prepare that mostly stands, now and then none; then a start.
+    pub fn plan_prepared_start(&mut self) {
+        match self.dice.below(100) {
+            0..=4 => {}
+            5..=9 => self.plan_of(0, failed_prepare),
+            10..=12 => self.plan_of(0, unfit_prepare),
+            _ => self.plan_of(0, standing_prepare),
+        }
+        let start = self.start();
+        self.plan(0, start);
+    }
+
+    /// A seeded event of a sort.
+    pub fn plan_of(&mut self, wait: u32, sort: fn(&mut Dice) -> Event) {
+        let event = sort(&mut self.dice);
+        self.plan(wait, event);
+    }
+
+    /// A prepare or two of any sort, then a start, which tells what they did.
+    pub fn plan_prepare(&mut self) {
+        for _ in 0..self.dice.within(1, 2) {
+            self.plan_of(1, any_prepare);
+        }
+        let start = self.start();
+        self.plan(0, start);
     }
 
     /// The runs that lack.
@@ -254,6 +284,7 @@ impl Planner {
 
     /// A run or two of any sort, then a start, which tells what they did.
     pub fn plan_run(&mut self) {
+        self.plan_of(0, any_prepare);
         for _ in 0..self.dice.within(1, 2) {
             let event = any_run(&mut self.dice);
             self.plan(1, event);
@@ -280,8 +311,7 @@ impl Planner {
         if self.dice.percent(70) {
             self.plan(0, Event::Try(Some(u32::MAX)));
         }
-        let start = self.start();
-        self.plan(0, start);
+        self.plan_prepared_start();
     }
 
     /// A start exactly at, or one second after, the end of what admits it.
@@ -291,24 +321,34 @@ impl Planner {
         let start = self.start();
         let expiry = |wait: u32| Event::Try(Some(now.saturating_add(wait)));
         self.plan_lacking_runs(bench);
-        match self.dice.below(3) {
+        match self.dice.below(4) {
             0 => {
                 self.plan(0, Event::WarmUp);
                 self.plan(1800 - bench.v.min(1800), Event::Calibration(true));
                 self.plan(0, Event::Try(Some(u32::MAX)));
-                self.plan(bench.v.min(1800) + late, start);
+                self.plan_of(bench.v.min(1800) + late, standing_prepare);
+                self.plan(0, start);
             }
             1 => {
                 self.plan(0, Event::Calibration(true));
                 self.plan(bench.v - bench.v.min(10), Event::WarmUp);
                 self.plan(0, Event::Try(Some(u32::MAX)));
-                self.plan(bench.v.min(10) + late, start);
+                self.plan_of(bench.v.min(10) + late, standing_prepare);
+                self.plan(0, start);
+            }
+            2 => {
+                self.plan_of(0, standing_prepare);
+                self.plan(120 + late, Event::WarmUp);
+                self.plan(0, Event::Calibration(true));
+                self.plan(0, Event::Try(Some(u32::MAX)));
+                self.plan(0, start);
             }
             _ => {
                 self.plan(0, Event::WarmUp);
                 self.plan(30, Event::Calibration(true));
                 self.plan(0, expiry(31));
-                self.plan(1 + late, start);
+                self.plan_of(1 + late, standing_prepare);
+                self.plan(0, start);
             }
         }
     }

@@ -25,6 +25,7 @@ pub fn kind_of(event: &Event) -> u8 {
         Event::Second(_) => 10,
         Event::Stop(_) => 11,
         Event::Run(_) => 12,
+        Event::Prepare(_) => 13,
     }
 }
 
@@ -52,6 +53,10 @@ pub fn put_event(out: &mut Vec<u8>, clock: Option<u32>, event: &Event) {
             put_words(out, &[run.inertia, run.power]);
             out.push(run.faster as u8);
             out.extend(run.ms.to_le_bytes());
+        }
+        Event::Prepare(prepare) => {
+            put_words(out, &prepare.background);
+            out.extend(prepare.residue.to_le_bytes());
         }
         _ => {}
     }

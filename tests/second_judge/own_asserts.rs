@@ -7,6 +7,10 @@ use crate::asserts_coast_down::{
 use crate::asserts_dips::check_dips;
 use crate::asserts_engine::{check_engines, check_gathered, check_means};
 use crate::asserts_numbers::{check_corrections, check_readings, check_rounding, check_windows};
+use crate::asserts_prepare::{
+    check_lock_8_last, check_prepare_ages, check_prepare_ends, check_prepare_items,
+    check_prepare_order, check_prepare_refusals, check_prepare_use, check_refused_starts,
+};
 use crate::asserts_record::{
     check_line, check_named, check_records, check_round_trips, check_samples, check_writer,
 };
@@ -206,6 +210,14 @@ pub fn selftest() -> bool {
     check_run_ages(&mut checks);
     check_run_refusals(&mut checks);
     check_run_items(&mut checks);
+    check_prepare_ends(&mut checks);
+    check_prepare_ages(&mut checks);
+    check_prepare_order(&mut checks);
+    check_prepare_use(&mut checks);
+    check_refused_starts(&mut checks);
+    check_prepare_refusals(&mut checks);
+    check_lock_8_last(&mut checks);
+    check_prepare_items(&mut checks);
     check_plausible(&mut checks);
     check_growing(&mut checks);
     check_gathered(&mut checks);

@@ -8,6 +8,7 @@ use crate::make_tests::kind_of;
 use crate::numbers::Refusal;
 use crate::reach::{names, texts, Reach};
 use crate::reach_dips::{dips_in_events, Runs};
+use crate::reach_prepares::{prepare_names, Refused};
 use crate::reach_runs::{reach_run_refused, reach_start, run_names};
 use crate::reach_tests::units_of;
 use crate::running::Running;
@@ -18,6 +19,7 @@ struct Trail {
     refused: Vec<(u32, u8, u8)>, // clock, kind and number of those refused since the last accepted one
     unfit_second: Option<u32>,   // refused 8 since the latest warm-up or second
     failed_runs: Vec<u8>, // refusals of failed runs since the latest run, power-on or clock setting
+    prepares: Refused,    // starts and prepares refused since the latest prepare
     quiet_stop: Option<(u32, &'static str)>, // the last event: a stop that changed only the clock, from this
 }
 
@@ -67,15 +69,16 @@ const SPECIAL: [&str; 23] = [
 
 fn required_of_events() -> Vec<String> {
     let mut required = texts(&["pass", "fail", "incomplete", "start admitted"]);
-    required.extend(names("lock ", 1..=7));
+    required.extend(names("lock ", 1..=8));
     required.extend(names("refused 4 ", 1..=7));
     required.extend(texts(&["refused 5 0", "refused 13 0", "refused 15 0"]));
     required.extend(names("refused 8 ", 1..=8));
-    required.extend(names("refused 11 kind ", 1..=12));
+    required.extend(names("refused 11 kind ", 1..=13));
     required.extend(names("refused 12 kind ", 2..=9));
-    required.extend(names("refused 12 kind ", 12..=12));
+    required.extend(names("refused 12 kind ", 12..=13));
     required.extend(texts(&SPECIAL));
     required.extend(run_names());
+    required.extend(prepare_names());
     required.extend(dips_in_events());
     required
 }
@@ -160,6 +163,7 @@ impl Trail {
                 reach.count(format!("lock {lock}"));
                 self.locked(reach, bench, clock, lock);
                 reach_start(reach, bench, clock, Some(lock));
+                self.prepares.start(reach, bench, clock, Some(lock));
             }
             _ => reach.count(refusal.to_string()),
         }
@@ -172,6 +176,7 @@ impl Trail {
                 self.failed_runs.push(refusal.number);
             }
         }
+        self.prepares.refused(reach, event, refusal);
         self.refused.push((clock, kind, refusal.number));
     }
 
@@ -207,6 +212,9 @@ impl Trail {
         if recently(|k| matches!(k, Kept::Run(_))) {
             reach.count("lock 2 within 1,800 s of a run");
         }
+        if recently(|k| matches!(k, Kept::Prepare(_))) {
+            reach.count("lock 2 within 1,800 s of a prepare");
+        }
     }
 
     fn accepted(&mut self, reach: &mut Reach, bench: &Bench, clock: u32, event: &Event) {
@@ -214,27 +222,29 @@ impl Trail {
             Event::Second(_) => self.second_taken(reach, clock),
             Event::Start(..) => self.start_admitted(reach, bench, clock),
             Event::Run(_) | Event::PowerOn | Event::ClockSetting(_) => self.failed_runs.clear(),
+            Event::Prepare(_) => self.prepares.prepared(),
             _ => {}
         }
         if matches!(event, Event::Second(_) | Event::WarmUp) {
             self.unfit_second = None;
         }
-        self.unfit_run_before(reach, clock);
+        self.unfit_before(reach, clock);
         self.refused.clear();
     }
 
     fn start_admitted(&self, reach: &mut Reach, bench: &Bench, clock: u32) {
         reach_admitted(reach, bench, clock);
         reach_start(reach, bench, clock, None);
+        self.prepares.start(reach, bench, clock, None);
         for number in &self.failed_runs {
             reach.count(format!("failed run refused {number}: start admitted"));
         }
     }
 
-    /// An event earlier than a run that was refused for its fields.
-    fn unfit_run_before(&self, reach: &mut Reach, clock: u32) {
+    /// An event earlier than a run or prepare that was refused for its fields.
+    fn unfit_before(&self, reach: &mut Reach, clock: u32) {
         for (_, _, number) in self.refused.iter().filter(|(refused, ..)| *refused > clock) {
-            if matches!(number, 16 | 17) {
+            if matches!(number, 16..=18) {
                 reach.count(format!(
                     "refused {number} with a later clock, then an event"
                 ));
