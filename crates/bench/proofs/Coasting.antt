@@ -1,4 +1,5 @@
--- What a coast-down run is answered: by its inertia and power where no test runs, 12 where one does. Assumes nothing.
+-- What a coast-down run is answered, by its inertia and power, where no test runs; and 12 for every event but power-on, second
+-- and stop where one does. Assumes nothing.
 use Prim.Native.Nat.{ℕ, _≤_}
 use mathlib.Core.Bool.{Bool, true, false, false≢true, not}
 use mathlib.Core.Path.{_≡_, refl, ap, sym, _∙_}
@@ -13,18 +14,30 @@ use Rattle.coast_down.specs.Passing.{inertiaFit, powerFit}
 use Rattle.coast_down.proofs.Exact.{inertia-exactly, power-exactly}
 use Rattle.locks.specs.declared.Event.{Event}
 use Rattle.locks.specs.declared.Event.the-variants.{CoastDown}
+use Rattle.locks.specs.Events.{kindOf, clockOf}
 use Rattle.bench.specs.declared.Answer.{Answer}
 use Rattle.bench.specs.declared.Answer.the-variants as answer
 use Rattle.bench.specs.History.{History, runs}
-use Rattle.bench.specs.Causes.{settingAt, saturationBad, causeBad, readingAt, inertiaBad, powerBad, lockAt, causes, firstCause}
+use Rattle.bench.specs.Causes.{outsideTest, settingAt, saturationBad, causeBad, readingAt, inertiaBad, powerBad, backgroundAt, lockAt, causes, firstCause}
 use Rattle.bench.specs.Telling.{acceptance, added, judged, tell}
 use Rattle.bench.specs.Laws.{RunAnswered}
 
 -- An answer's refusal number, 0 where it is none.
-abbrev numberOf : Answer → ℕ
+abbrev pub numberOf : Answer → ℕ
 numberOf answer.Accepted = 0
 numberOf (answer.Judged x) = 0
 numberOf (answer.Refused r) = r .number
+
+-- An event in clock order that is no power-on, second or stop, where a test runs.
+pub in-test :
+    (validity limit : ℕ) (h : History) (e : Event) →
+    outsideTest (kindOf e) ≡ true →
+    h .last ≤ clockOf e →
+    (test : Test) →
+    h .test ≡ some test →
+    tell validity limit h e .answer ≡ answer.Refused testRunning
+unfolding tell judged causes firstCause runs pick
+in-test validity limit h e outside order test running = rw (le-ltb (clockOf e) (h .last) order, running, outside) refl
 
 module _ (validity limit : ℕ) (h : History) (clock : ℕ) (run : Run) (order : h .last ≤ clock) where
   abbrev e : Event
@@ -34,7 +47,7 @@ module _ (validity limit : ℕ) (h : History) (clock : ℕ) (run : Run) (order :
       h .test ≡ none →
       firstCause (causes validity limit h e)
       ≡ pick (not (inertiaFit (run .inertia))) (some inertiaUnfit) (pick (not (powerFit (run .power))) (some powerUnfit) none)
-  unfolding causes firstCause settingAt saturationBad causeBad readingAt inertiaBad powerBad lockAt runs pick
+  unfolding causes firstCause settingAt saturationBad causeBad readingAt inertiaBad powerBad backgroundAt lockAt runs pick
   rows idle = rw (le-ltb clock (h .last) order, idle) refl
 
   by-fitness :
@@ -77,8 +90,3 @@ module _ (validity limit : ℕ) (h : History) (clock : ℕ) (run : Run) (order :
       (inertia-exactly (run .inertia)) (power-exactly (run .power))
       (tell validity limit h e .answer) (ap (λ o. judged o h e .answer) (rows idle)) in
       record { inertia = x .0; power = x .1 .0; fit = x .1 .1 }
-
-  -- Where one does.
-  pub run-in-test : (test : Test) → h .test ≡ some test → tell validity limit h e .answer ≡ answer.Refused testRunning
-  unfolding tell judged causes firstCause runs pick
-  run-in-test test running = rw (le-ltb clock (h .last) order, running) refl

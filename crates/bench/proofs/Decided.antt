@@ -24,7 +24,7 @@ use Rattle.locks.specs.declared.Event.{Event}
 use Rattle.locks.specs.declared.Event.the-variants.{Start, Second, Stop}
 use Rattle.locks.proofs.Sorts.{Sort, serves, starts, measures, stops, sort-of}
 use Rattle.bench.specs.History.{History, runs}
-use Rattle.bench.specs.Causes.{Cause, settingAt, saturationBad, causeBad, automaticIn, readingAt, inertiaBad, powerBad, lockAt, causes, firstCause}
+use Rattle.bench.specs.Causes.{Cause, settingAt, saturationBad, causeBad, automaticIn, readingAt, inertiaBad, powerBad, backgroundAt, lockAt, causes, firstCause}
 use Rattle.bench.specs.Telling.{inputWith, inputOf, verdictNext, verdictTold, endedBy, stepTaken, outcomeOf, acceptance, added, judged, tell}
 use Rattle.bench.specs.Demand.{isAccepted, NoneStand, Unlocked, Gives}
 use Rattle.bench.proofs.Tied.{served}
@@ -73,9 +73,9 @@ pub admitted-exactly :
     saturationFit saturation ≡ true →
     (isAccepted (tell validity limit h (Start clock settings saturation) .answer) ≡ true) ↔
     Unlocked validity limit clock (h .events)
-unfolding causes settingAt saturationBad causeBad readingAt inertiaBad powerBad lockAt runs
+unfolding causes settingAt saturationBad causeBad readingAt inertiaBad powerBad backgroundAt lockAt runs
 admitted-exactly validity limit h clock settings saturation order idle place vapour = (
-  (λ a. unlocked validity limit clock (h .events) (eqb-true _ _ (not-false _ (exactly .0 a .1 .1 .1 .1 .1 .1 .1 .1 .1 .0)))),
+  (λ a. unlocked validity limit clock (h .events) (eqb-true _ _ (not-false _ (exactly .0 a .1 .1 .1 .1 .1 .1 .1 .1 .1 .1 .0)))),
   (λ u. exactly .1 (stands-not u)),
 )
   where
@@ -105,8 +105,11 @@ admitted-exactly validity limit h clock settings saturation order idle place vap
                     (
                       refl,
                       (
-                        rw (no-lock validity limit clock (h .events) u) refl,
-                        tt,
+                        refl,
+                        (
+                          rw (no-lock validity limit clock (h .events) u) refl,
+                          tt,
+                        ),
                       ),
                     ),
                   ),

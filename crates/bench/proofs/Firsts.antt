@@ -18,7 +18,7 @@ use Rattle.locks.specs.Accepted.{Accepted}
 use Rattle.locks.specs.Locks.{standingIn, inOrder, firstStanding, lockInOrder, lockOf}
 use Rattle.bench.specs.History.{History}
 use Rattle.bench.specs.Causes.{Cause, free, lockAt, locked, causes, firstCause}
-use Rattle.bench.specs.Laws.{LockStands, lock1, lock2, lock3, lock4, lock5, lock6, lock7, LeastLock}
+use Rattle.bench.specs.Laws.{LockStands, lock1, lock2, lock3, lock4, lock5, lock6, lock7, lock8, LeastLock}
 
 -- A row that returns another refusal is passed by.
 past :
@@ -62,7 +62,7 @@ module _ (validity limit : ℕ) (h : History) (e : Event) where
       others : firstCause (drop 1 rows) ≡ some (clockEarlier n) → ⊥
       others =
           none-has (drop 1 rows) (clockEarlier n)
-          (eqb-false 12 11 refl, (eqb-false 13 11 refl, (eqb-false 4 11 refl, (eqb-false 5 11 refl, (eqb-false 15 11 refl, (eqb-false 8 11 refl, (eqb-false 16 11 refl, (eqb-false 17 11 refl, (eqb-false 14 11 refl, tt)))))))))
+          (eqb-false 12 11 refl, (eqb-false 13 11 refl, (eqb-false 4 11 refl, (eqb-false 5 11 refl, (eqb-false 15 11 refl, (eqb-false 8 11 refl, (eqb-false 16 11 refl, (eqb-false 17 11 refl, (eqb-false 18 11 refl, (eqb-false 14 11 refl, tt))))))))))
 
       go :
           (b : Bool) →
@@ -109,7 +109,8 @@ module _ (validity limit now : ℕ) (l : List Accepted) where
   stands-here (suc (suc (suc (suc zero)))) h = lock5 h
   stands-here (suc (suc (suc (suc (suc zero))))) h = lock6 h
   stands-here (suc (suc (suc (suc (suc (suc zero)))))) h = lock7 h
-  stands-here (suc (suc (suc (suc (suc (suc (suc i))))))) h = absurd (true≢false (sym h))
+  stands-here (suc (suc (suc (suc (suc (suc (suc zero))))))) h = lock8 h
+  stands-here (suc (suc (suc (suc (suc (suc (suc (suc i)))))))) h = absurd (true≢false (sym h))
 
   here-stands : (n : ℕ) → Stands n → (1 ≤ n) × (getD (inOrder (standingIn validity limit now l)) (n - 1) false ≡ true)
   here-stands n (lock1 s) = (omega arith, s)
@@ -119,6 +120,7 @@ module _ (validity limit now : ℕ) (l : List Accepted) where
   here-stands n (lock5 s) = (omega arith, s)
   here-stands n (lock6 s) = (omega arith, s)
   here-stands n (lock7 s) = (omega arith, s)
+  here-stands n (lock8 s) = (omega arith, s)
 
   -- The first lock's number is the least of those that stand.
   least-lock : (n : ℕ) → lockOf validity limit now l ≡ n → (n ≡ 0 → ⊥) → LeastLock validity limit now l n
@@ -173,6 +175,7 @@ locked-least validity limit h e n c = go (startIn e) (last .0) (last .1)
         (past _ _ r
         (past _ _ r
         (past _ _ r
+        (past _ _ r
         (past _ _ r c
         (differ 11 14 _ n (eqb-false 11 14 refl)))
         (differ 12 14 _ n (eqb-false 12 14 refl)))
@@ -183,6 +186,7 @@ locked-least validity limit h e n c = go (startIn e) (last .0) (last .1)
         (differ 8 14 _ n (eqb-false 8 14 refl)))
         (differ 16 14 _ n (eqb-false 16 14 refl)))
         (differ 17 14 _ n (eqb-false 17 14 refl)))
+        (differ 18 14 _ n (eqb-false 18 14 refl)))
 
     go :
         (o : Option Starting) →

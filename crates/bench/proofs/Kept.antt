@@ -79,6 +79,7 @@ unlocked validity limit now l h =
     let h₅ = stands-zero _ _ _ (eqb-false 5 0 refl) (h₄ .1) in
     let h₆ = stands-zero _ _ _ (eqb-false 6 0 refl) (h₅ .1) in
     let h₇ = stands-zero _ _ _ (eqb-false 7 0 refl) (h₆ .1) in
+    let h₈ = stands-zero _ _ _ (eqb-false 8 0 refl) (h₇ .1) in
     record {
       warm = h₁ .0;
       active = h₂ .0;
@@ -87,12 +88,13 @@ unlocked validity limit now l h =
       password = h₅ .0;
       authority = h₆ .0;
       unsent = h₇ .0;
+      prepared = h₈ .0;
     }
 
 pub no-lock : (validity limit now : ℕ) (l : List Accepted) → Unlocked validity limit now l → lockOf validity limit now l ≡ 0
 unfolding lockOf lockInOrder firstStanding pick
 no-lock validity limit now l h =
-    rw (h .warm, h .active, h .calibrated, h .signedIn, h .password, h .authority, h .unsent)
+    rw (h .warm, h .active, h .calibrated, h .signedIn, h .password, h .authority, h .unsent, h .prepared)
 
 -- Fit settings and a fit p are checked fit.
 pub checked-fit :
@@ -178,7 +180,7 @@ module _ (validity limit : ℕ) (l : List Accepted) (last : ℕ) where
       let place : unfitPlace settings ≡ 0 = eqb-true _ _ (not-false _ (n .1 .1 .1 .0)) in
       let vapour : saturationFit p ≡ true = not-false _ (n .1 .1 .1 .1 .0) in
       let free : Unlocked validity limit clock l =
-      unlocked validity limit clock l (eqb-true _ _ (not-false _ (n .1 .1 .1 .1 .1 .1 .1 .1 .1 .0))) in
+      unlocked validity limit clock l (eqb-true _ _ (not-false _ (n .1 .1 .1 .1 .1 .1 .1 .1 .1 .1 .0))) in
       let other : unsentIn l ≡ limit → ⊥ = eqb-false (unsentIn l) limit (free .unsent) in
       record {
         unsent = u;

@@ -14,7 +14,7 @@ use Rattle.refusal.specs.declared.Refusal.{Refusal}
 use Rattle.vehicle.specs.declared.Settings.{Settings}
 use Rattle.attempt.proofs.Tests.{and-right}
 use Rattle.locks.specs.declared.Event.{Event}
-use Rattle.locks.specs.declared.Event.the-variants.{Start, CoastDown}
+use Rattle.locks.specs.declared.Event.the-variants.{Start, CoastDown, Prepare}
 use Rattle.locks.specs.Events.{clockOf}
 use Rattle.locks.specs.Accepted.{since, latestOf}
 use Rattle.locks.specs.Locks.{unsentIn, unsentLock}
@@ -31,7 +31,8 @@ use Rattle.bench.proofs.Refusing.{struck, split}
 use Rattle.bench.proofs.Kept.{unlocked}
 use Rattle.bench.proofs.Given.{FromEvents, after-read}
 use Rattle.bench.proofs.Firsts.{clock-exactly, locked-least}
-use Rattle.bench.proofs.Coasting.{run-answered, run-in-test}
+use Rattle.bench.proofs.Coasting.{run-answered, in-test}
+use Rattle.bench.proofs.Preparing.{prepare-answered}
 use Rattle.bench.proofs.Decided.{refused-exactly}
 use Rattle.bench.proofs.Demanded.{told, sound, demanded, bounded}
 
@@ -70,7 +71,9 @@ module _ (validity limit : ℕ) (fit : limit ≤ 255) where
     locks = stands-exactly validity limit;
     clock = clock-law;
     coastDown = λ es clock run order idle. rw (told validity limit fit es (CoastDown clock run)) (run-answered validity limit (historyOf validity limit es) clock run order idle);
-    coastDownInTest = λ es clock run test order running. told validity limit fit es (CoastDown clock run) ∙ run-in-test validity limit (historyOf validity limit es) clock run order test running;
+    coastDownInTest = λ es clock run test order running. told validity limit fit es (CoastDown clock run) ∙ in-test validity limit (historyOf validity limit es) (CoastDown clock run) refl order test running;
+    prepare = λ es clock check order idle. rw (told validity limit fit es (Prepare clock check)) (prepare-answered validity limit (historyOf validity limit es) clock check order idle);
+    prepareInTest = λ es clock check test order running. told validity limit fit es (Prepare clock check) ∙ in-test validity limit (historyOf validity limit es) (Prepare clock check) refl order test running;
     split = λ es e fs. split (freshBench validity limit) es e fs;
     test = λ es. read es .test;
   }
@@ -90,7 +93,7 @@ never-admitted validity es clock settings saturation = go (isAccepted (answerAft
     go true h =
         let rows = demanded validity 0 (omega arith) .accepted es e .0 h in
         let none : Unlocked validity 0 clock (historyOf validity 0 es .events) =
-        unlocked validity 0 clock (historyOf validity 0 es .events) (eqb-true _ _ (not-false _ (rows .1 .1 .1 .1 .1 .1 .1 .1 .1 .0))) in
+        unlocked validity 0 clock (historyOf validity 0 es .events) (eqb-true _ _ (not-false _ (rows .1 .1 .1 .1 .1 .1 .1 .1 .1 .1 .0))) in
         absurd
         (eqb-false (unsentIn (historyOf validity 0 es .events)) 0 (none .unsent)
         (omega (arith, sound validity 0 (omega arith) es .unsent)))

@@ -6,6 +6,7 @@ pub mod Kept
 pub mod Given
 pub mod Firsts
 pub mod Coasting
+pub mod Preparing
 pub mod Decided
 pub mod Earning
 pub mod Demanded

@@ -9,7 +9,7 @@ use lib.Dec.{eqb}
 use lib.ListN.{drop}
 use borrow.Author.Tests.{eq-eqb, ne-eqb}
 use Rattle.refusal.specs.Choice.{pick}
-use Rattle.refusal.specs.Table.{settingUnfit, saturationUnfit, readingUnfit, inertiaUnfit, powerUnfit, startLocked}
+use Rattle.refusal.specs.Table.{settingUnfit, saturationUnfit, readingUnfit, inertiaUnfit, powerUnfit, backgroundUnfit, startLocked}
 use Rattle.refusal.specs.declared.Refusal.{Refusal}
 use Rattle.reading.specs.declared.Readings.{Readings}
 use Rattle.reading.specs.declared.Converted.{Converted}
@@ -33,24 +33,25 @@ use Rattle.loaded_test.specs.Going.{isRunning, Goes}
 use Rattle.loaded_test.proofs.Going.{second-goes, stop-goes, stop-refused}
 use Rattle.loaded_test.proofs.Passing.{stands}
 use Rattle.coast_down.specs.Passing.{inertiaFit, powerFit}
+use Rattle.prepare.specs.Standing.{aboveGreatest}
 use Rattle.bench.specs.declared.Handled.{Handled}
 use Rattle.bench.specs.declared.Answer.the-variants as answer
 use Rattle.locks.specs.declared.Event.{Event}
 use Rattle.locks.specs.declared.Event.the-variants.{Start, Second, Stop}
 use Rattle.locks.specs.declared.Service.{Service}
 use Rattle.locks.specs.declared.Service.the-variants as service
-use Rattle.locks.specs.Events.{kindOf, carriedBy, runWith}
+use Rattle.locks.specs.Events.{kindOf, clockOf, carriedBy, runWith, prepareWith}
 use Rattle.locks.specs.Accepted.{Accepted, accepted}
 use Rattle.locks.specs.Locks.{lockOf, unsentIn}
 use Rattle.locks.specs.State.{locksAfter, verdictCounted}
 use Rattle.locks.proofs.Sorts.{Serves, Sort, serves, starts, measures, stops, sort-of}
 use Rattle.locks.proofs.Kept.{locksOf, locks-after, verdict-counted, lock-number}
 use Rattle.bench.specs.History.{History, runs}
-use Rattle.bench.specs.Causes.{outsideTest, insideTest, settingAt, saturationBad, causeBad, automaticIn, readingAt, inertiaBad, powerBad, free, lockAt, causes, firstCause}
+use Rattle.bench.specs.Causes.{outsideTest, insideTest, settingAt, saturationBad, causeBad, automaticIn, readingAt, inertiaBad, powerBad, backgroundAt, free, lockAt, causes, firstCause}
 use Rattle.bench.specs.Telling.{secondInput, verdictNext, verdictTold, leaves, endedBy, stepTaken, leftBy, outcomeWith, outcomeOf, acceptance, added, judged, tell}
 use Rattle.bench.specs.Running.{inputsSince}
 use Rattle.bench.specs.declared.Ruling.the-variants as ruling
-use Rattle.bench.specs.Stepping.{refused, withTest, plainTaken, firstRefusal, inertiaRuling, powerRuling, serviceRuling, serviceJudged, serviceTaken, fitness, lockRuling, startJudged, startTaken, judgedWith, followed, answered, secondJudged, secondTaken, stopTaken, taken, running, stepBy, step}
+use Rattle.bench.specs.Stepping.{refused, withTest, plainTaken, firstRefusal, inertiaRuling, powerRuling, backgroundRuling, serviceRuling, serviceJudged, serviceTaken, fitness, lockRuling, startJudged, startTaken, judgedWith, followed, answered, secondJudged, secondTaken, stopTaken, taken, running, stepBy, step}
 use Rattle.bench.proofs.Summary.{testOr, summary, summarised}
 use Rattle.bench.proofs.Sound.{Sound, Runs, Follows}
 
@@ -128,16 +129,18 @@ module _ (validity limit : ℕ) (l : List Accepted) (last : ℕ) where
       rw
       (served (at o) e s, none-left o (eqb (kindOf e) 1) (insideTest (kindOf e)) (s .notInside) h, locks-after e l)
 
-  -- Judged by whether the inertia and the power of a coast-down run are fit.
+  -- Judged by whether the inertia and the power of a coast-down run, and the background of a prepare, are fit.
   service-ruled :
       (o : Option Test) (e : Event) (x : Service) →
       plainTaken (summary validity limit (at o) .desk) e ≡ summarised validity limit (judged none (at o) e) →
       serviceJudged (serviceRuling x) (summary validity limit (at o)) e
       ≡ summarised validity limit
       (judged
-      (pick (inertiaBad (runWith x)) (some inertiaUnfit) (pick (powerBad (runWith x)) (some powerUnfit) none))
+      (pick (inertiaBad (runWith x)) (some inertiaUnfit)
+      (pick (powerBad (runWith x)) (some powerUnfit)
+      (pick (not (eqb (backgroundAt (prepareWith (clockOf e) x)) 0)) (some (backgroundUnfit (backgroundAt (prepareWith (clockOf e) x)))) none)))
       (at o) e)
-  unfolding inertiaBad powerBad inertiaRuling powerRuling pick
+  unfolding inertiaBad powerBad backgroundAt inertiaRuling powerRuling backgroundRuling pick
   service-ruled o e service.Nothing p = p
   service-ruled o e (service.NewClock new) p = p
   service-ruled o e (service.Outcome outcome) p = p
@@ -154,6 +157,15 @@ module _ (validity limit : ℕ) (l : List Accepted) (last : ℕ) where
       go true true = p
       go true false = refused-tied o e powerUnfit
       go false b = refused-tied o e inertiaUnfit
+  service-ruled o e (service.Prepared check) p = go (eqb (aboveGreatest check) 0)
+    where
+      go :
+          (a : Bool) →
+          serviceJudged (pick a ruling.Taken (ruling.Refused (backgroundUnfit (aboveGreatest check)))) (summary validity limit (at o)) e
+          ≡ summarised validity limit
+          (judged (pick (not a) (some (backgroundUnfit (aboveGreatest check))) none) (at o) e)
+      go true = p
+      go false = refused-tied o e (backgroundUnfit (aboveGreatest check))
 
   service-tied : (o : Option Test) (e : Event) → Serves e → runs o && outsideTest (kindOf e) ≡ false → Tied o e
   unfolding causes firstCause settingAt saturationBad causeBad readingAt lockAt pick serviceTaken
@@ -184,7 +196,7 @@ module _ (validity limit : ℕ) (l : List Accepted) (last : ℕ) where
   start-ruled clock settings p n false b c = refl
 
   start-tied : (clock : ℕ) (settings : Settings) (p : ℕ) → Tied none (Start clock settings p)
-  unfolding causes firstCause settingAt saturationBad causeBad readingAt inertiaBad powerBad lockAt pick startTaken lockRuling
+  unfolding causes firstCause settingAt saturationBad causeBad readingAt inertiaBad powerBad backgroundAt lockAt pick startTaken lockRuling
   start-tied clock settings p =
       rw (begin-answer settings p, lock-number validity limit clock l)
       (start-ruled clock settings p (lockOf validity limit clock l)
@@ -238,7 +250,7 @@ module _ (validity limit : ℕ) (l : List Accepted) (last : ℕ) where
       t .vehicle .automatic ≡ automaticIn l →
       unsentIn l < 65535 →
       Tied (some t) (Second clock readings)
-  unfolding causes firstCause settingAt saturationBad causeBad readingAt inertiaBad powerBad lockAt testOr secondTaken secondInput stepTaken judged pick ToldBy
+  unfolding causes firstCause settingAt saturationBad causeBad readingAt inertiaBad powerBad backgroundAt lockAt testOr secondTaken secondInput stepTaken judged pick ToldBy
   second-tied clock readings t live gearbox room =
       ap (λ b. secondJudged (secondOf readings b) (summary validity limit (at (some t))) (Second clock readings)) gearbox ∙
       go (secondOf readings (automaticIn l)) refl (least-refused readings (automaticIn l))
@@ -266,7 +278,7 @@ module _ (validity limit : ℕ) (l : List Accepted) (last : ℕ) where
       isRunning (t .progress .stage) ≡ true →
       unsentIn l < 65535 →
       Tied (some t) (Stop clock cause)
-  unfolding causes firstCause settingAt saturationBad causeBad readingAt inertiaBad powerBad lockAt testOr stopTaken stepTaken judged pick
+  unfolding causes firstCause settingAt saturationBad causeBad readingAt inertiaBad powerBad backgroundAt lockAt testOr stopTaken stepTaken judged pick
   stop-tied clock cause t live room = go (causeFit cause) refl
     where
       go : (b : Bool) → causeFit cause ≡ b → Tied (some t) (Stop clock cause)

@@ -1,5 +1,6 @@
 -- The rows of document 01's refusal table that can refuse an event, in their order: "Events: 11, 12 or 13, then 4, 5, 15 or 8, then 14.",
--- with those that document 02, A.2, adds for a coast-down run: "16 inertia out of range, then 17 power, after 12".
+-- with those that document 02 adds for a coast-down run (A.2: "16 inertia out of range, then 17 power, after 12") and for a prepare (A.5:
+-- "18 a prepare with a background value above its channel's greatest, .. after 12").
 -- They judge by V, U and the history alone.
 use Prim.Native.Nat.{ℕ}
 use mathlib.Core.Bool.{Bool, false, not, _&&_, _||_}
@@ -7,7 +8,7 @@ use mathlib.Core.List.{List, [], _∷_}
 use mathlib.Core.Option.{Option, none, some}
 use lib.Dec.{ltb, eqb}
 use Rattle.refusal.specs.Choice.{pick}
-use Rattle.refusal.specs.Table.{clockEarlier, testRunning, noTest, settingUnfit, saturationUnfit, causeUnfit, readingUnfit, inertiaUnfit, powerUnfit, startLocked}
+use Rattle.refusal.specs.Table.{clockEarlier, testRunning, noTest, settingUnfit, saturationUnfit, causeUnfit, readingUnfit, inertiaUnfit, powerUnfit, backgroundUnfit, startLocked}
 use Rattle.refusal.specs.declared.Refusal.{Refusal}
 use Rattle.reading.specs.declared.Readings.{Readings}
 use Rattle.reading.specs.Fitness.{leastUnfit}
@@ -16,8 +17,9 @@ use Rattle.vehicle.specs.Settings.{automatic, unfitPlace}
 use Rattle.loaded_test.specs.Steps.{causeFit}
 use Rattle.coast_down.specs.declared.Run.{Run}
 use Rattle.coast_down.specs.Passing.{inertiaFit, powerFit}
+use Rattle.prepare.specs.Standing.{aboveGreatest}
 use Rattle.locks.specs.declared.Event.{Event}
-use Rattle.locks.specs.Events.{kindOf, clockOf, startIn, readingsIn, causeIn, runIn, Starting}
+use Rattle.locks.specs.Events.{kindOf, clockOf, startIn, readingsIn, causeIn, runIn, prepareIn, Starting, Preparing}
 use Rattle.locks.specs.Accepted.{Accepted, latestOf}
 use Rattle.locks.specs.Locks.{lockOf}
 use Rattle.bench.specs.History.{History, runs}
@@ -68,6 +70,11 @@ unfoldable pub powerBad : Option Run → Bool
 powerBad none = false
 powerBad (some run) = not (powerFit (run .power))
 
+-- "18 a prepare with a background value above its channel's greatest, place the lowest such code": that code; 0 where there is none.
+unfoldable pub backgroundAt : Option Preparing → ℕ
+backgroundAt none = 0
+backgroundAt (some p) = aboveGreatest (p .check)
+
 -- The gearbox (2 automatic) is that of the latest start.
 unfoldable pub automaticOf : Option Starting → Bool
 automaticOf none = false
@@ -107,6 +114,7 @@ causes validity limit h e =
     ∷ causeAt (readingAt (automaticIn (h .events)) (readingsIn e)) readingUnfit
     ∷ cause (inertiaBad (runIn e)) inertiaUnfit
     ∷ cause (powerBad (runIn e)) powerUnfit
+    ∷ causeAt (backgroundAt (prepareIn e)) backgroundUnfit
     ∷ locked (lockAt validity limit (clockOf e) (h .events) (startIn e))
     ∷ []
 

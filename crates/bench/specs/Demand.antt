@@ -22,7 +22,7 @@ use Rattle.bench.specs.declared.Bench.{Bench}
 use Rattle.locks.specs.declared.Event.{Event}
 use Rattle.locks.specs.declared.Event.the-variants.{Start}
 use Rattle.locks.specs.Accepted.{Accepted}
-use Rattle.locks.specs.Locks.{notWarm, inactive, notCalibrated, notSignedIn, passwordLock, authorityLock, unsentLock}
+use Rattle.locks.specs.Locks.{notWarm, inactive, notCalibrated, notSignedIn, passwordLock, authorityLock, unsentLock, notPrepared}
 use Rattle.bench.specs.History.{History, freshHistory}
 use Rattle.bench.specs.Causes.{Cause, causes, firstCause, automaticIn}
 use Rattle.bench.specs.Telling.{inputOf, historyAfter, historyAnswers}
@@ -58,7 +58,7 @@ abbrev pub NoneStand : List Cause → Type 0
 NoneStand [] = Unit {0}
 NoneStand (c ∷ l) = (c .stands ≡ false) × NoneStand l
 
--- None of the seven locks stands for a start at this clock.
+-- None of the eight locks, document 01's seven and document 02's lock 8, stands for a start at this clock.
 pub record Unlocked (validity limit now : ℕ) (l : List Accepted) : Type 0 where
   pub warm : notWarm l ≡ false
   pub active : inactive now l ≡ false
@@ -67,6 +67,7 @@ pub record Unlocked (validity limit now : ℕ) (l : List Accepted) : Type 0 wher
   pub password : passwordLock l ≡ false
   pub authority : authorityLock l ≡ false
   pub unsent : unsentLock limit l ≡ false
+  pub prepared : notPrepared now l ≡ false
 
 -- Document 01's steps, taken by the history's test on an event, give a verdict.
 pub record Gives (h : History) (e : Event) (x : Verdict) : Type 0 where
@@ -91,7 +92,7 @@ pub record Demand3 (validity limit : ℕ) : Type 0 where
       (es : List Event) (e : Event) (r : Refusal) →
       (answerAfter validity limit es e ≡ Refused r) ↔
       (firstCause (causes validity limit (historyOf validity limit es) e) ≡ some r)
-  -- a fit start, in clock order, with no test running, is admitted exactly if none of the seven locks stands
+  -- a fit start, in clock order, with no test running, is admitted exactly if none of the eight locks stands
   pub admitted :
       (es : List Event) (clock : ℕ) (settings : Settings) (saturation : ℕ) →
       historyOf validity limit es .last ≤ clock →

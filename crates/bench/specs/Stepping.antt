@@ -1,9 +1,9 @@
 -- The step of the bench, as the function `step` takes it, and a fresh bench.
 use Prim.Native.Nat.{ℕ}
 use mathlib.Core.Bool.{Bool, not, _&&_}
-use lib.Dec.{ltb, leb}
+use lib.Dec.{ltb, leb, eqb}
 use Rattle.refusal.specs.Choice.{pick}
-use Rattle.refusal.specs.Table.{clockEarlier, testRunning, noTest, startLocked, causeUnfit, inertiaUnfit, powerUnfit}
+use Rattle.refusal.specs.Table.{clockEarlier, testRunning, noTest, startLocked, causeUnfit, inertiaUnfit, powerUnfit, backgroundUnfit}
 use Rattle.refusal.specs.declared.Refusal.{Refusal}
 use Rattle.reading.specs.declared.Readings.{Readings}
 use Rattle.reading.specs.declared.Converted.{Converted}
@@ -24,6 +24,7 @@ use Rattle.loaded_test.specs.Going.{isRunning}
 use Rattle.loaded_test.specs.Steps.{begin, second, stop}
 use Rattle.coast_down.specs.declared.Run.{Run}
 use Rattle.coast_down.specs.Passing.{inertiaFit, powerFit}
+use Rattle.prepare.specs.Standing.{aboveGreatest}
 use Rattle.locks.specs.declared.Locks.{Locks}
 use Rattle.locks.specs.declared.Event.{Event}
 use Rattle.locks.specs.declared.Service.{Service}
@@ -80,13 +81,18 @@ powerRuling power = pick (powerFit power) Taken (Refused powerUnfit)
 abbrev pub runRuling : Run → Ruling
 runRuling run = firstRefusal (inertiaRuling (run .inertia)) (powerRuling (run .power))
 
--- Of the events that are no start, second or stop, a coast-down run alone can be unfit.
+-- 18 at this code, the lowest whose background is above its channel's greatest; taken where it is 0, which is none.
+unfoldable pub backgroundRuling : ℕ → Ruling
+backgroundRuling code = pick (eqb code 0) Taken (Refused (backgroundUnfit code))
+
+-- Of the events that are no start, second or stop, a coast-down run and a prepare alone can be unfit.
 abbrev pub serviceRuling : Service → Ruling
 serviceRuling service.Nothing = Taken
 serviceRuling (service.NewClock new) = Taken
 serviceRuling (service.Outcome outcome) = Taken
 serviceRuling (service.Tried outcome) = Taken
 serviceRuling (service.Ran run) = runRuling run
+serviceRuling (service.Prepared check) = backgroundRuling (aboveGreatest check)
 
 -- Such an event by its ruling.
 abbrev pub serviceJudged : Ruling → Bench → Event → Handled

@@ -1,5 +1,5 @@
-// Document 01, "Locks of the bench", and document 02, A.2: one bench, which takes the twelve kinds of event in any order.
-// Exported: open, which gives a fresh bench or refuses V or U, and step, which takes one event and answers it; Event and its outcomes.
+// Document 01, "Locks of the bench", and document 02, A.2 and A.5: one bench, which takes the thirteen kinds of event in any order.
+// Exported: open, which gives a fresh bench or refuses V or U, and step, which takes one event and answers it; Event and what it carries.
 // specs/History.antt, Causes.antt and Telling.antt are the plain history; specs/Demand.antt is demand 3, which open carries.
 ghost use mathlib.Core.Path.{_≡_};
 ghost use Rattle.bench.specs.Causes.{insideTest, outsideTest};
@@ -19,6 +19,8 @@ pub use locks::Calibration;
 pub use locks::Event;
 use locks::Locks;
 pub use locks::Try;
+pub use prepare::Residue;
+pub use prepare::ZeroCheck;
 use refusal::Refusal;
 
 // The answer to an event: accepted, accepted with a verdict, or refused.
@@ -125,9 +127,10 @@ fn outside_test(kind: u8) -> bool
     !((kind == 1) | inside_test(kind))
 }
 
-// One event: its answer and the next bench. 11, 12 or 13, then 4, 5, 15, 8, 16 or 17, then 14; a refused event gives back the same bench.
-// Ruled out: a refused event that moves the clock, a start told of its lock before its settings are looked at, and 17 for a coast-down run
-// whose inertia is unfit too.
+// One event: its answer and the next bench. 11, 12 or 13, then 4, 5, 15, 8, 16, 17 or 18, then 14; a refused event gives back the same
+// bench.
+// Ruled out: a refused event that moves the clock, a start told of its lock before its settings are looked at, 17 for a coast-down run whose
+// inertia is unfit too, and a refused prepare that takes the place of a standing one.
 pub fn step(bench: Bench, event: Event) -> Handled
     ensures { λ r. ⌜ (r ≡ step bench event) × BackIfRefused bench r ⌝ }
 {

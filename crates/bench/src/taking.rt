@@ -11,6 +11,7 @@ ghost use Rattle.bench.specs.Stepping.{
   inertiaRuling,
   powerRuling,
   runRuling,
+  backgroundRuling,
   serviceRuling,
   serviceJudged,
   serviceTaken,
@@ -147,6 +148,19 @@ fn run_ruling(run: Run) -> Ruling
     first_refusal(inertia, power)
 }
 
+// "18 a prepare with a background value above its channel's greatest, place the lowest such code"
+fn background_ruling(code: u8) -> Ruling
+    ensures { λ r. ⌜ r ≡ backgroundRuling code ⌝ }
+{
+    if code == 0 {
+        return Ruling::Taken;
+    }
+    Ruling::Refused(Refusal {
+        number: refusal::BACKGROUND_UNFIT,
+        place: code as usize,
+    })
+}
+
 fn service_ruling(x: Service) -> Ruling
     ensures { λ r. ⌜ r ≡ serviceRuling x ⌝ }
 {
@@ -156,6 +170,7 @@ fn service_ruling(x: Service) -> Ruling
         Service::Outcome(_) => Ruling::Taken,
         Service::Tried(_) => Ruling::Taken,
         Service::Ran(run) => run_ruling(run),
+        Service::Prepared(check) => background_ruling(prepare::above_greatest(check)),
     }
 }
 
@@ -169,7 +184,7 @@ fn service_judged(ruling: Ruling, bench: Bench, event: Event) -> Handled
     }
 }
 
-// An event that is no start, second or stop: of these a coast-down run alone can be unfit.
+// An event that is no start, second or stop: of these a coast-down run and a prepare alone can be unfit.
 fn service_taken(bench: Bench, event: Event, x: Service) -> Handled
     ensures { λ r. ⌜ r ≡ serviceTaken bench event x ⌝ }
 {

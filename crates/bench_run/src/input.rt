@@ -1,9 +1,11 @@
 // Events from standard input; 0 for what is past its end.
 use bench::Calibration;
 use bench::Event;
+use bench::Residue;
 use bench::Run;
 use bench::SpeedRange;
 use bench::Try;
+use bench::ZeroCheck;
 use reading::Reading;
 use reading::Readings;
 use vehicle::Settings;
@@ -30,6 +32,7 @@ pub(crate) fn next() -> Found {
         10 => Found::Event(second(clock)),
         11 => Found::Event(stop(clock)),
         12 => Found::Event(coast_down(clock)),
+        13 => Found::Event(prepare(clock)),
         _ => Found::End,
     }
 }
@@ -134,6 +137,23 @@ fn speed_range(which: u8) -> SpeedRange {
         return SpeedRange::Faster;
     }
     SpeedRange::Slower
+}
+
+// Background HC, CO, NO and the bits of the residue.
+fn prepare(clock: u32) -> Event {
+    let hc = short();
+    let co = short();
+    let no = short();
+    let residue = Residue(short());
+    Event::Prepare {
+        clock,
+        check: ZeroCheck {
+            hc,
+            co,
+            no,
+            residue,
+        },
+    }
 }
 
 fn read(a: u8, b: u8, c: u8, d: u8) -> Reading {

@@ -13,6 +13,7 @@ use Rattle.coast_down.specs.declared.SpeedRange.{SpeedRange}
 use Rattle.coast_down.specs.declared.SpeedRange.the-variants.{Faster, Slower}
 use Rattle.coast_down.specs.declared.Run.{Run}
 use Rattle.coast_down.specs.Passing.{runPassed}
+use Rattle.prepare.specs.Standing.{prepareStands}
 use Rattle.locks.specs.declared.Calibration.{Calibration as Outcome}
 use Rattle.locks.specs.declared.Calibration.the-variants.{Passed, Failed}
 use Rattle.locks.specs.declared.Try.{Try as Tried}
@@ -23,6 +24,8 @@ use Rattle.locks.specs.declared.SignIn.{SignIn}
 use Rattle.locks.specs.declared.SignIn.the-variants.{Out}
 use Rattle.locks.specs.declared.Activity.{Activity}
 use Rattle.locks.specs.declared.Activity.the-variants.{Never, Last}
+use Rattle.locks.specs.declared.Prepared.{Prepared}
+use Rattle.locks.specs.declared.Prepared.the-variants.{Not, Since}
 use Rattle.locks.specs.declared.Service.{Service}
 use Rattle.locks.specs.declared.Service.the-variants as service
 use Rattle.locks.specs.declared.Rollers.{Rollers}
@@ -30,10 +33,10 @@ use Rattle.locks.specs.declared.Session.{Session}
 use Rattle.locks.specs.declared.Security.{Security}
 use Rattle.locks.specs.declared.Locks.{Locks}
 use Rattle.locks.specs.declared.Event.{Event}
-use Rattle.locks.specs.Events.{kindOf, clockOf, serviceIn, calibrationWith, calibrationIn, tryWith, tryIn, runWith, sameSpeeds, ofSpeeds, runAt, passed, Calibrating}
+use Rattle.locks.specs.Events.{kindOf, clockOf, serviceIn, calibrationWith, calibrationIn, tryWith, tryIn, runWith, sameSpeeds, ofSpeeds, runAt, prepareWith, prepareIn, passed, Calibrating, Preparing}
 use Rattle.locks.specs.Accepted.{Accepted, accepted, isKind, since, any, orElse, latestOf}
-use Rattle.locks.specs.Locks.{voiding, renews, notWarm, activeClock, overdue, inactive, expired, noneValid, latestCalibration, latestRun, somePassed, notCoasted, notCalibrated, noneGood, latestTry, notSignedIn, isWrong, rowEnds, rowEnd, wrongTries, wrongRow, passwordLock, authorityLock, withVerdict, verdictsIn, unsentIn, unsentLock, lockOf}
-use Rattle.locks.specs.State.{warmAfter, calibratedBy, calibratedWith, calibratedAfter, noRuns, ranBy, ranWith, ranAfter, signedBy, signedWith, signedAfter, oneWrong, wrongAfter, freshLocks, activeAfter, securityAfter, unsentAfter, sessionAfter, locksAfter, verdictCounted, calibrationOld, idle, signInOver, lockNumber}
+use Rattle.locks.specs.Locks.{voiding, renews, notWarm, activeClock, overdue, inactive, expired, noneValid, latestCalibration, latestRun, somePassed, notCoasted, notCalibrated, noneGood, latestTry, notSignedIn, isWrong, rowEnds, rowEnd, wrongTries, wrongRow, passwordLock, authorityLock, withVerdict, verdictsIn, unsentIn, unsentLock, prepareEnd, latestPrepare, noneStands, notPrepared, lockOf}
+use Rattle.locks.specs.State.{warmAfter, calibratedBy, calibratedWith, calibratedAfter, noRuns, ranBy, ranWith, ranAfter, signedBy, signedWith, signedAfter, oneWrong, wrongAfter, freshLocks, activeAfter, securityAfter, unsentAfter, sessionAfter, preparedBy, preparedWith, preparedAfter, locksAfter, verdictCounted, calibrationOld, idle, signInOver, unprepared, lockNumber}
 
 unfoldable pub calibratedOf : Option Calibrating → Calibrated
 calibratedOf none = No
@@ -49,6 +52,10 @@ rollersOf l = record { faster = somePassed (latestRun Faster l); slower = somePa
 unfoldable pub activityOf : Option ℕ → Activity
 activityOf none = Never
 activityOf (some clock) = Last clock
+
+unfoldable pub preparedOf : Option Preparing → Prepared
+preparedOf none = Not
+preparedOf (some p) = preparedBy (prepareStands (p .check)) (p .clock)
 
 abbrev pub sessionOf : List Accepted → Session
 sessionOf l = record {
@@ -68,10 +75,11 @@ locksOf l = record {
   active = activityOf (latestOf activeClock l);
   security = securityOf l;
   unsent = unsentIn l;
+  prepared = preparedOf (latestPrepare l);
 }
 
 pub fresh-of : locksOf [] ≡ freshLocks
-unfolding locksOf since any latestOf latestCalibration latestRun latestTry wrongTries wrongRow passwordLock authorityLock verdictsIn unsentIn calibratedOf somePassed signInOf activityOf
+unfolding locksOf since any latestOf latestCalibration latestRun latestTry wrongTries wrongRow passwordLock authorityLock verdictsIn unsentIn latestPrepare calibratedOf somePassed signInOf activityOf preparedOf
 fresh-of = refl
 
 -- What is read from a list since an event, with one accepted event more.
@@ -121,7 +129,7 @@ verdicts-since q a l = go (q a)
     go true = refl
     go false = refl
 
--- The latest calibration, try and activity, each by what an event carries.
+-- The latest calibration, run, try, prepare and activity, each by what an event carries.
 calibrated-with :
     (clock : ℕ) (x : Service) (o : Option Calibrating) (b : Bool) →
     calibratedOf (pick b none (orElse (calibrationWith clock x) o)) ≡ pick b No (calibratedWith clock x (calibratedOf o))
@@ -133,6 +141,7 @@ calibrated-with clock (service.Outcome Passed) o false = refl
 calibrated-with clock (service.Outcome Failed) o false = refl
 calibrated-with clock (service.Tried outcome) o false = refl
 calibrated-with clock (service.Ran run) o false = refl
+calibrated-with clock (service.Prepared check) o false = refl
 
 -- A run of one speed leaves the other's.
 ran-with :
@@ -161,6 +170,7 @@ ran-with (service.Ran run) f s false = go (run .speeds)
         (ranBy v (runPassed run) (record { faster = somePassed f; slower = somePassed s }))
     go Faster = refl
     go Slower = refl
+ran-with (service.Prepared check) f s false = refl
 
 signed-with :
     (x : Service) (o : Option Tried) (b : Bool) →
@@ -172,6 +182,19 @@ signed-with (service.NewClock new) o false = refl
 signed-with (service.Outcome outcome) o false = refl
 signed-with (service.Tried outcome) o false = refl
 signed-with (service.Ran run) o false = refl
+signed-with (service.Prepared check) o false = refl
+
+prepared-with :
+    (clock : ℕ) (x : Service) (o : Option Preparing) (b : Bool) →
+    preparedOf (pick b none (orElse (prepareWith clock x) o)) ≡ pick b Not (preparedWith clock x (preparedOf o))
+unfolding orElse preparedOf pick
+prepared-with clock x o true = refl
+prepared-with clock service.Nothing o false = refl
+prepared-with clock (service.NewClock new) o false = refl
+prepared-with clock (service.Outcome outcome) o false = refl
+prepared-with clock (service.Tried outcome) o false = refl
+prepared-with clock (service.Ran run) o false = refl
+prepared-with clock (service.Prepared check) o false = refl
 
 active-with :
     (clock : ℕ) (o : Option ℕ) (b : Bool) →
@@ -245,11 +268,21 @@ module _ (e : Event) (v : Option Verdict) (l : List Accepted) where
       (security-with (kindOf e) (serviceIn e) (wrongTries (since rowEnd l)) (passwordLock l)
       (any (isKind 6) (since (isKind 7) l)) (eqb (kindOf e) 7) refl)
 
+  prepared-kept : preparedOf (latestPrepare (a ∷ l)) ≡ preparedAfter (preparedOf (latestPrepare l)) (kindOf e) (clockOf e) (serviceIn e)
+  unfolding latestPrepare preparedAfter
+  prepared-kept = rw (latest-since prepareIn prepareEnd a l, prepared-with)
+
 -- After an accepted event with no verdict.
 pub locks-after : (e : Event) (l : List Accepted) → locksOf (accepted e none ∷ l) ≡ locksAfter (locksOf l) e
 unfolding locksOf unsentIn unsentAfter withVerdict
 locks-after e l =
-    rw (session-kept e none l, active-kept e none l, security-kept e none l, verdicts-since (isKind 8) (accepted e none) l)
+    rw (
+      session-kept e none l,
+      active-kept e none l,
+      security-kept e none l,
+      verdicts-since (isKind 8) (accepted e none) l,
+      prepared-kept e none l,
+    )
 
 more : (n : ℕ) → n < 65535 → min (n + 1) 65535 ≡ suc n
 more n h = omega arith
@@ -267,6 +300,7 @@ verdict-counted e x l k h =
       active-kept e (some x) l,
       security-kept e (some x) l,
       verdicts-since (isKind 8) (accepted e (some x)) l,
+      prepared-kept e (some x) l,
       k,
       more (verdictsIn (since (isKind 8) l)) h,
     )
@@ -293,15 +327,25 @@ unfolding activityOf overdue
 idle-none now none = refl
 idle-none now (some clock) = refl
 
+unprepared-none : (now : ℕ) (o : Option Preparing) → unprepared now (preparedOf o) ≡ noneStands now o
+unfolding preparedOf preparedBy noneStands pick
+unprepared-none now none = refl
+unprepared-none now (some p) = go (prepareStands (p .check))
+  where
+    go : (b : Bool) → unprepared now (pick b (Since (p .clock)) Not) ≡ not b || unprepared now (Since (p .clock))
+    go true = refl
+    go false = refl
+
 -- The bench's lock number is that of the accepted events.
 pub lock-number :
     (validity limit now : ℕ) (l : List Accepted) → lockNumber validity limit (locksOf l) now ≡ lockOf validity limit now l
-unfolding locksOf lockNumber lockOf notWarm inactive notCalibrated notCoasted notSignedIn unsentLock
+unfolding locksOf lockNumber lockOf notWarm inactive notCalibrated notCoasted notSignedIn unsentLock notPrepared
 lock-number validity limit now l =
     rw (
       idle-none now (latestOf activeClock l),
       old-none validity now (latestCalibration l),
       over-none now (latestTry l),
+      unprepared-none now (latestPrepare l),
     )
 
 -- Wrong tries are held at four.

@@ -6,7 +6,7 @@ use lib.Dec.{eqb}
 use Rattle.reading.specs.declared.Readings.{Readings}
 use Rattle.vehicle.specs.declared.Settings.{Settings}
 use Rattle.locks.specs.declared.Event.{Event}
-use Rattle.locks.specs.declared.Event.the-variants.{PowerOn, ClockSetting, WarmUp, Calibration, Try, AuthorityLock, AuthorityUnlock, Upload, Start, Second, Stop, CoastDown}
+use Rattle.locks.specs.declared.Event.the-variants.{PowerOn, ClockSetting, WarmUp, Calibration, Try, AuthorityLock, AuthorityUnlock, Upload, Start, Second, Stop, CoastDown, Prepare}
 use Rattle.locks.specs.declared.Service.{Service}
 use Rattle.locks.specs.declared.Carried.the-variants as carried
 use Rattle.locks.specs.Events.{kindOf, carriedBy}
@@ -45,3 +45,4 @@ sort-of (Start clock settings p) = starts clock settings p
 sort-of (Second clock readings) = measures clock readings
 sort-of (Stop clock cause) = stops clock cause
 sort-of (CoastDown clock run) = serving (CoastDown clock run) _ refl refl refl
+sort-of (Prepare clock check) = serving (Prepare clock check) _ refl refl refl

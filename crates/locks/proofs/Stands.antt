@@ -14,16 +14,19 @@ use Rattle.coast_down.specs.declared.SpeedRange.{SpeedRange}
 use Rattle.coast_down.specs.declared.SpeedRange.the-variants.{Faster, Slower}
 use Rattle.coast_down.specs.declared.Run.{Run}
 use Rattle.coast_down.specs.Passing.{runPassed}
+use Rattle.prepare.specs.declared.ZeroCheck.{ZeroCheck}
+use Rattle.prepare.specs.Standing.{prepareStands}
+use Rattle.prepare.proofs.Exact.{prepare-claims}
 use Rattle.locks.specs.declared.Calibration.{Calibration as Outcome}
 use Rattle.locks.specs.declared.Calibration.the-variants.{Passed, Failed}
 use Rattle.locks.specs.declared.Try.{Try as Tried}
 use Rattle.locks.specs.declared.Try.the-variants.{Good, Wrong}
 use Rattle.locks.specs.declared.Event.{Event}
-use Rattle.locks.specs.declared.Event.the-variants.{PowerOn, ClockSetting, WarmUp, Calibration, Try, AuthorityLock, AuthorityUnlock, Upload, Start, Second, Stop, CoastDown}
-use Rattle.locks.specs.Events.{kindOf, clockOf, serviceIn, calibrationIn, tryIn, runIn, sameSpeeds, ofSpeeds, runAt, Calibrating}
+use Rattle.locks.specs.declared.Event.the-variants.{PowerOn, ClockSetting, WarmUp, Calibration, Try, AuthorityLock, AuthorityUnlock, Upload, Start, Second, Stop, CoastDown, Prepare}
+use Rattle.locks.specs.Events.{kindOf, clockOf, serviceIn, calibrationIn, tryIn, runIn, sameSpeeds, ofSpeeds, runAt, prepareIn, Calibrating, Preparing}
 use Rattle.locks.specs.Accepted.{Accepted, isKind, since, any, orElse, latestOf}
-use Rattle.locks.specs.Locks.{voids, voiding, renews, notWarm, activeClock, overdue, inactive, expired, noneValid, latestCalibration, latestRun, somePassed, notCoasted, notCalibrated, noneGood, latestTry, notSignedIn, isWrong, endsRow, rowEnd, wrongTries, wrongRow, passwordLock, authorityLock, verdictsIn, unsentIn, unsentLock}
-use Rattle.locks.specs.Plain.{IsKind, Voids, NoneIs, Has, NotWarm, Active, ActiveBefore, Inactive, PassedWithin, RunOf, PassedRun, NoneCalibrated, NotCoasted, NotCalibrated, GoodWithin, NotSignedIn, WrongTry, GoodTry, Unlocks, EndsRow, WrongInRow, PasswordLocked, AuthorityLocked, Uploads, Unsent}
+use Rattle.locks.specs.Locks.{voids, voiding, renews, notWarm, activeClock, overdue, inactive, expired, noneValid, latestCalibration, latestRun, somePassed, notCoasted, notCalibrated, noneGood, latestTry, notSignedIn, isWrong, endsRow, rowEnd, wrongTries, wrongRow, passwordLock, authorityLock, verdictsIn, unsentIn, unsentLock, endsPrepare, prepareEnd, latestPrepare, noneStands, notPrepared}
+use Rattle.locks.specs.Plain.{IsKind, Voids, NoneIs, Has, NotWarm, Active, ActiveBefore, Inactive, PassedWithin, RunOf, PassedRun, NoneCalibrated, NotCoasted, NotCalibrated, GoodWithin, NotSignedIn, WrongTry, GoodTry, Unlocks, EndsRow, WrongInRow, PasswordLocked, AuthorityLocked, Uploads, Unsent, StandsWithin, EndsPrepare, NotPrepared}
 use Rattle.locks.specs.Claims.{LockClaims}
 use Rattle.locks.proofs.Kept.{any-since, latest-since, wrong-since}
 use Rattle.locks.proofs.Found.{Found, found-here, found-later, found-exactly}
@@ -98,20 +101,23 @@ activity now l =
     go clock o true false h = h
     go clock o false c h = refl
 
--- An event by what it has to do with calibrations, tries and coast-down runs.
+-- An event by what it has to do with calibrations, tries, coast-down runs and prepares.
 pub record Other (e : Event) : Type 0 where
   pub noCalibration : calibrationIn e ≡ none
   pub noTry : tryIn e ≡ none
   pub noRun : runIn e ≡ none
+  pub noPrepare : prepareIn e ≡ none
   pub notWrong : isWrong (serviceIn e) ≡ false
   pub endsNone : endsRow (serviceIn e) ≡ false
   pub notFour : eqb (kindOf e) 4 ≡ false
   pub notFive : eqb (kindOf e) 5 ≡ false
+  pub notThirteen : eqb (kindOf e) 13 ≡ false
 
 data View : Event → Type 0 where
   calibrates : (clock : ℕ) (outcome : Outcome) → View (Calibration clock outcome)
   tries : (clock : ℕ) (outcome : Tried) → View (Try clock outcome)
   coasts : (clock : ℕ) (run : Run) → View (CoastDown clock run)
+  prepares : (clock : ℕ) (check : ZeroCheck) → View (Prepare clock check)
   other : (e : Event) → Other e → View e
 
 plain :
@@ -119,27 +125,41 @@ plain :
     calibrationIn e ≡ none →
     tryIn e ≡ none →
     runIn e ≡ none →
+    prepareIn e ≡ none →
     isWrong (serviceIn e) ≡ false →
     endsRow (serviceIn e) ≡ false →
     eqb (kindOf e) 4 ≡ false →
     eqb (kindOf e) 5 ≡ false →
+    eqb (kindOf e) 13 ≡ false →
     View e
-plain e a b r c d f g =
-    other e (record { noCalibration = a; noTry = b; noRun = r; notWrong = c; endsNone = d; notFour = f; notFive = g })
+plain e a b r p c d f g t =
+    other e
+    (record {
+      noCalibration = a;
+      noTry = b;
+      noRun = r;
+      noPrepare = p;
+      notWrong = c;
+      endsNone = d;
+      notFour = f;
+      notFive = g;
+      notThirteen = t;
+    })
 
 view : (e : Event) → View e
-view (PowerOn clock) = plain (PowerOn clock) refl refl refl refl refl refl refl
-view (ClockSetting clock new) = plain (ClockSetting clock new) refl refl refl refl refl refl refl
-view (WarmUp clock) = plain (WarmUp clock) refl refl refl refl refl refl refl
+view (PowerOn clock) = plain (PowerOn clock) refl refl refl refl refl refl refl refl refl
+view (ClockSetting clock new) = plain (ClockSetting clock new) refl refl refl refl refl refl refl refl refl
+view (WarmUp clock) = plain (WarmUp clock) refl refl refl refl refl refl refl refl refl
 view (Calibration clock outcome) = calibrates clock outcome
 view (Try clock outcome) = tries clock outcome
-view (AuthorityLock clock) = plain (AuthorityLock clock) refl refl refl refl refl refl refl
-view (AuthorityUnlock clock) = plain (AuthorityUnlock clock) refl refl refl refl refl refl refl
-view (Upload clock) = plain (Upload clock) refl refl refl refl refl refl refl
-view (Start clock settings p) = plain (Start clock settings p) refl refl refl refl refl refl refl
-view (Second clock readings) = plain (Second clock readings) refl refl refl refl refl refl refl
-view (Stop clock cause) = plain (Stop clock cause) refl refl refl refl refl refl refl
+view (AuthorityLock clock) = plain (AuthorityLock clock) refl refl refl refl refl refl refl refl refl
+view (AuthorityUnlock clock) = plain (AuthorityUnlock clock) refl refl refl refl refl refl refl refl refl
+view (Upload clock) = plain (Upload clock) refl refl refl refl refl refl refl refl refl
+view (Start clock settings p) = plain (Start clock settings p) refl refl refl refl refl refl refl refl refl
+view (Second clock readings) = plain (Second clock readings) refl refl refl refl refl refl refl refl refl
+view (Stop clock cause) = plain (Stop clock cause) refl refl refl refl refl refl refl refl refl
 view (CoastDown clock run) = coasts clock run
+view (Prepare clock check) = prepares clock check
 
 -- A lock that stands exactly where nothing lifts it.
 lifted-exactly : {P : Type 0} (x : Bool) → (not x ≡ true) ↔ P → (x ≡ true) ↔ (P → ⊥)
@@ -150,7 +170,7 @@ not-and-none : (v : Bool) → not v && false ≡ false
 not-and-none true = refl
 not-and-none false = refl
 
--- Locks 3 and 4: the latest of a sort that is not void, where there is one, lifts the lock or not. Only events of that sort carry one, and
+-- Locks 3, 4 and 8: the latest of a sort that is not void, where there is one, lifts the lock or not. Only events of that sort carry one, and
 -- none of them voids.
 abbrev Kinded : {A : Type 0} → Bool → Bool → Option A → Type 0
 Kinded is void none = is ≡ false
@@ -176,36 +196,38 @@ module _ {A : Type 0} (lifts : Option A → Bool) (never : lifts none ≡ false)
   latest-step is void none o h = rw h (not-lifted void o)
   latest-step is void (some x) o h = rw (h .0, h .1) (lifted (lifts (some x)))
 
-  none-yet : (f : Event → Option A) → lifts (latestOf f (since voiding [])) ≡ false
+  none-yet : (ends : Accepted → Bool) (f : Event → Option A) → lifts (latestOf f (since ends [])) ≡ false
   unfolding latestOf since
-  none-yet f = never
+  none-yet ends f = never
 
   latest-exactly :
+      (ends : Accepted → Bool) (Ends : Accepted → Type 0) →
+      ((a : Accepted) → (ends a ≡ true) ↔ Ends a) →
       (is : Accepted → Bool) (Is : Accepted → Type 0) (f : Event → Option A) (P : Accepted → Type 0) →
       ((a : Accepted) → (is a ≡ true) ↔ Is a) →
-      ((a : Accepted) → Kinded (is a) (voiding a) (f (a .event))) →
-      ((a : Accepted) → (not (voiding a) && lifts (f (a .event)) ≡ true) ↔ P a) →
+      ((a : Accepted) → Kinded (is a) (ends a) (f (a .event))) →
+      ((a : Accepted) → (not (ends a) && lifts (f (a .event)) ≡ true) ↔ P a) →
       (l : List Accepted) →
-      (lifts (latestOf f (since voiding l)) ≡ true) ↔ Has P (λ a. Is a ⊎ Voids a) l
-  latest-exactly is Is f P sort kinded exactly l =
+      (lifts (latestOf f (since ends l)) ≡ true) ↔ Has P (λ a. Is a ⊎ Ends a) l
+  latest-exactly ends Ends ended is Is f P sort kinded exactly l =
       has-exactly _ l
-      (found-exactly P (λ a. Is a ⊎ Voids a) All
-      (λ l. lifts (latestOf f (since voiding l)))
+      (found-exactly P (λ a. Is a ⊎ Ends a) All
+      (λ l. lifts (latestOf f (since ends l)))
       (λ _. true)
-      (λ a. not (voiding a) && lifts (f (a .event)))
-      (λ a. is a || voiding a)
-      (none-yet f) step exactly
-      (λ a. or-exactly (is a) (voiding a) (sort a) (is-voiding a))
+      (λ a. not (ends a) && lifts (f (a .event)))
+      (λ a. is a || ends a)
+      (none-yet ends f) step exactly
+      (λ a. or-exactly (is a) (ends a) (sort a) (ended a))
       always l)
     where
       step :
           (a : Accepted) (l : List Accepted) →
-          lifts (latestOf f (since voiding (a ∷ l)))
-          ≡ (not (voiding a) && lifts (f (a .event))) && true
-          || not (is a || voiding a) && lifts (latestOf f (since voiding l))
+          lifts (latestOf f (since ends (a ∷ l)))
+          ≡ (not (ends a) && lifts (f (a .event))) && true
+          || not (is a || ends a) && lifts (latestOf f (since ends l))
       step a l =
-          ap lifts (latest-since f voiding a l) ∙
-          latest-step (is a) (voiding a) (f (a .event)) (latestOf f (since voiding l)) (kinded a)
+          ap lifts (latest-since f ends a l) ∙
+          latest-step (is a) (ends a) (f (a .event)) (latestOf f (since ends l)) (kinded a)
 
 -- Lock 3, as to the calibration.
 module _ (validity now : ℕ) where
@@ -223,6 +245,7 @@ module _ (validity now : ℕ) where
       go (Calibration _ _) (calibrates clock outcome) = (refl, refl)
       go (Try _ _) (tries clock outcome) = refl
       go (CoastDown _ _) (coasts clock run) = refl
+      go (Prepare _ _) (prepares clock check) = refl
       go e (other _ x) = rw (x .noCalibration) (x .notFour)
 
   passed-exactly :
@@ -241,6 +264,7 @@ module _ (validity now : ℕ) where
       found (Calibration _ _) s (calibrates clock Failed) h = absurd (false≢true h)
       found (Try _ _) s (tries clock outcome) h = absurd (false≢true h)
       found (CoastDown _ _) s (coasts clock run) h = absurd (false≢true h)
+      found (Prepare _ _) s (prepares clock check) h = absurd (false≢true h)
       found e s (other _ x) h =
           absurd (false≢true (sym (not-and-none (voids (kindOf e))) ∙ sym (ap (λ o. not (voids (kindOf e)) && valid o) (x .noCalibration)) ∙ h))
 
@@ -251,7 +275,7 @@ module _ (validity now : ℕ) where
   unfolding valid latestCalibration
   calibration l =
       lifted-exactly _
-      (latest-exactly valid none-valid (isKind 4) (IsKind 4) calibrationIn (PassedWithin validity now) (is-kind 4) calibration-kinded passed-exactly l)
+      (latest-exactly valid none-valid voiding Voids is-voiding (isKind 4) (IsKind 4) calibrationIn (PassedWithin validity now) (is-kind 4) calibration-kinded passed-exactly l)
 
 -- Lock 3, as to the rollers.
 module _ (speeds : SpeedRange) where
@@ -285,6 +309,7 @@ module _ (speeds : SpeedRange) where
       found (Try _ _) s (tries clock outcome) h = absurd (false≢true h)
       found (CoastDown _ _) s (coasts clock run) h =
           record { clock = clock; run = run; ran = s; same = same-speeds (run .speeds) .0 (sym (picked run (sameSpeeds speeds (run .speeds))) ∙ h) }
+      found (Prepare _ _) s (prepares clock check) h = absurd (false≢true h)
       found e s (other _ x) h = absurd (false≢true (sym (ap (λ o. isRun (ofSpeeds speeds o)) (x .noRun)) ∙ h))
 
       back : RunOf speeds a → isRun (runAt speeds (a .event)) ≡ true
@@ -302,6 +327,7 @@ module _ (speeds : SpeedRange) where
       go (Calibration _ _) (calibrates clock outcome) = refl
       go (Try _ _) (tries clock outcome) = refl
       go (CoastDown _ _) (coasts clock run) = picked run (sameSpeeds speeds (run .speeds))
+      go (Prepare _ _) (prepares clock check) = refl
       go e (other _ x) = rw (x .noRun) refl
 
   ran-exactly : (a : Accepted) → (not (voiding a) && somePassed (runAt speeds (a .event)) ≡ true) ↔ PassedRun speeds a
@@ -323,6 +349,7 @@ module _ (speeds : SpeedRange) where
       found (CoastDown _ _) s (coasts clock run) h =
           let b = both run (sameSpeeds speeds (run .speeds)) h in
           record { of = record { clock = clock; run = run; ran = s; same = same-speeds (run .speeds) .0 (b .0) }; passed = b .1 }
+      found (Prepare _ _) s (prepares clock check) h = absurd (false≢true h)
       found e s (other _ x) h =
           absurd (false≢true (sym (not-and-none (voids (kindOf e))) ∙ sym (ap (λ o. not (voids (kindOf e)) && somePassed (ofSpeeds speeds o)) (x .noRun)) ∙ h))
 
@@ -333,7 +360,7 @@ module _ (speeds : SpeedRange) where
   unfolding latestRun
   coasted l =
       not-exactly _
-      (latest-exactly somePassed none-passed (λ a. isRun (runAt speeds (a .event))) (RunOf speeds) (runAt speeds) (PassedRun speeds) of-run run-kinded ran-exactly l)
+      (latest-exactly somePassed none-passed voiding Voids is-voiding (λ a. isRun (runAt speeds (a .event))) (RunOf speeds) (runAt speeds) (PassedRun speeds) of-run run-kinded ran-exactly l)
 
 -- Lock 3.
 calibrated : (validity now : ℕ) (l : List Accepted) → (notCalibrated validity now l ≡ true) ↔ NotCalibrated validity now l
@@ -356,6 +383,7 @@ module _ (now : ℕ) where
       go (Calibration _ _) (calibrates clock outcome) = refl
       go (Try _ _) (tries clock outcome) = (refl, refl)
       go (CoastDown _ _) (coasts clock run) = refl
+      go (Prepare _ _) (prepares clock check) = refl
       go e (other _ x) = rw (x .noTry) (x .notFive)
 
   good-exactly : (a : Accepted) → (not (voiding a) && good (tryIn (a .event)) ≡ true) ↔ GoodWithin now a
@@ -373,6 +401,7 @@ module _ (now : ℕ) where
           record { clock = clock; expiry = expiry; good = s; valid = ltb-false expiry now (not-true _ h) }
       found (Try _ _) s (tries clock Wrong) h = absurd (false≢true h)
       found (CoastDown _ _) s (coasts clock run) h = absurd (false≢true h)
+      found (Prepare _ _) s (prepares clock check) h = absurd (false≢true h)
       found e s (other _ x) h =
           absurd (false≢true (sym (not-and-none (voids (kindOf e))) ∙ sym (ap (λ o. not (voids (kindOf e)) && good o) (x .noTry)) ∙ h))
 
@@ -381,7 +410,7 @@ module _ (now : ℕ) where
 
   sign-in : (l : List Accepted) → (notSignedIn now l ≡ true) ↔ NotSignedIn now l
   unfolding notSignedIn good latestTry
-  sign-in l = lifted-exactly _ (latest-exactly good none-good (isKind 5) (IsKind 5) tryIn (GoodWithin now) (is-kind 5) try-kinded good-exactly l)
+  sign-in l = lifted-exactly _ (latest-exactly good none-good voiding Voids is-voiding (isKind 5) (IsKind 5) tryIn (GoodWithin now) (is-kind 5) try-kinded good-exactly l)
 
 -- Lock 5.
 isWrongTry : Accepted → Bool
@@ -401,6 +430,7 @@ wrong-exactly a = ((λ h. found (a .event) refl (view (a .event)) h), back)
     found (Try _ _) s (tries clock (Good expiry)) h = absurd (false≢true h)
     found (Try _ _) s (tries clock Wrong) h = record { clock = clock; wrong = s }
     found (CoastDown _ _) s (coasts clock run) h = absurd (false≢true h)
+    found (Prepare _ _) s (prepares clock check) h = absurd (false≢true h)
     found e s (other _ x) h =
         absurd (false≢true (sym (not-and-none (eqb (kindOf e) 7 || endsRow (serviceIn e))) ∙
         sym (ap (λ b. not (eqb (kindOf e) 7 || endsRow (serviceIn e)) && b) (x .notWrong)) ∙ h))
@@ -416,6 +446,7 @@ good-try a = ((λ h. found (a .event) refl (view (a .event)) h), back)
     found (Try _ _) s (tries clock (Good expiry)) h = record { clock = clock; expiry = expiry; good = s }
     found (Try _ _) s (tries clock Wrong) h = absurd (false≢true h)
     found (CoastDown _ _) s (coasts clock run) h = absurd (false≢true h)
+    found (Prepare _ _) s (prepares clock check) h = absurd (false≢true h)
     found e s (other _ x) h = absurd (false≢true (sym (x .endsNone) ∙ h))
 
     back : GoodTry a → endsRow (serviceIn (a .event)) ≡ true
@@ -562,7 +593,69 @@ unsent limit l = ((λ h. there (eqb-true _ _ h) (upload-or-none l)), (λ x. eq-e
     back (inl x) = ap verdictsIn (uploaded l (x .0 .after) (x .0 .event) (x .0 .before) (x .0 .split) (x .0 .is) (x .0 .noneAfter)) ∙ x .1
     back (inr x) = ap verdictsIn (not-uploaded l (x .0)) ∙ x .1
 
--- All seven.
+-- Lock 8.
+is-prepare-end : (a : Accepted) → (prepareEnd a ≡ true) ↔ EndsPrepare a
+is-prepare-end a = or-exactly (voiding a) (isKind 9 a) (is-voiding a) (is-kind 9 a)
+
+module _ (now : ℕ) where
+  ready : Option Preparing → Bool
+  ready o = not (noneStands now o)
+
+  none-ready : ready none ≡ false
+  unfolding ready noneStands
+  none-ready = refl
+
+  prepare-kinded : (a : Accepted) → Kinded (isKind 13 a) (prepareEnd a) (prepareIn (a .event))
+  prepare-kinded a = go (a .event) (view (a .event))
+    where
+      go : (e : Event) → View e → Kinded (eqb (kindOf e) 13) (endsPrepare (kindOf e)) (prepareIn e)
+      go (Calibration _ _) (calibrates clock outcome) = refl
+      go (Try _ _) (tries clock outcome) = refl
+      go (CoastDown _ _) (coasts clock run) = refl
+      go (Prepare _ _) (prepares clock check) = (refl, refl)
+      go e (other _ x) = rw (x .noPrepare) (x .notThirteen)
+
+  stands-exactly-within : (a : Accepted) → (not (prepareEnd a) && ready (prepareIn (a .event)) ≡ true) ↔ StandsWithin now a
+  unfolding ready noneStands
+  stands-exactly-within a = ((λ h. found (a .event) refl (view (a .event)) h), back)
+    where
+      both : (x y : Bool) → not (not x || y) ≡ true → (x ≡ true) × (y ≡ false)
+      both true true h = absurd (false≢true h)
+      both true false h = (refl, refl)
+      both false y h = absurd (false≢true h)
+
+      found :
+          (e : Event) →
+          a .event ≡ e →
+          View e →
+          not (endsPrepare (kindOf e)) && ready (prepareIn e) ≡ true →
+          StandsWithin now a
+      found (Calibration _ _) s (calibrates clock outcome) h = absurd (false≢true h)
+      found (Try _ _) s (tries clock outcome) h = absurd (false≢true h)
+      found (CoastDown _ _) s (coasts clock run) h = absurd (false≢true h)
+      found (Prepare _ _) s (prepares clock check) h =
+          let b = both (prepareStands check) (ltb (clock + 120) now) h in
+          record {
+            clock = clock;
+            check = check;
+            prepared = s;
+            stands = prepare-claims .stands check .0 (b .0);
+            valid = ltb-false (clock + 120) now (b .1);
+          }
+      found e s (other _ x) h =
+          absurd (false≢true (sym (not-and-none (endsPrepare (kindOf e))) ∙
+          sym (ap (λ o. not (endsPrepare (kindOf e)) && ready o) (x .noPrepare)) ∙ h))
+
+      back : StandsWithin now a → not (endsPrepare (kindOf (a .event))) && ready (prepareIn (a .event)) ≡ true
+      back x = rw (x .prepared, prepare-claims .stands (x .check) .1 (x .stands), le-ltb (x .clock + 120) now (x .valid))
+
+  prepared : (l : List Accepted) → (notPrepared now l ≡ true) ↔ NotPrepared now l
+  unfolding notPrepared ready latestPrepare
+  prepared l =
+      lifted-exactly _
+      (latest-exactly ready none-ready prepareEnd EndsPrepare is-prepare-end (isKind 13) (IsKind 13) prepareIn (StandsWithin now) (is-kind 13) prepare-kinded stands-exactly-within l)
+
+-- All eight.
 pub stands-exactly : LockClaims
 stands-exactly validity limit now l = record {
   warmUp = warm-up l;
@@ -572,4 +665,5 @@ stands-exactly validity limit now l = record {
   password = password l;
   authority = authority l;
   unsent = unsent limit l;
+  prepare = prepared now l;
 }

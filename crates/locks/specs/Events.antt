@@ -1,4 +1,4 @@
--- The twelve kinds of event (document 01, "Locks of the bench"; document 02, A.2), and what each carries.
+-- The thirteen kinds of event (document 01, "Locks of the bench"; document 02, A.2 and A.5), and what each carries.
 use Prim.Native.Nat.{ℕ}
 use mathlib.Core.Bool.{Bool, true, false}
 use mathlib.Core.Option.{Option, none, some}
@@ -8,11 +8,12 @@ use Rattle.refusal.specs.Choice.{pick}
 use Rattle.coast_down.specs.declared.SpeedRange.{SpeedRange}
 use Rattle.coast_down.specs.declared.SpeedRange.the-variants.{Faster, Slower}
 use Rattle.coast_down.specs.declared.Run.{Run}
+use Rattle.prepare.specs.declared.ZeroCheck.{ZeroCheck}
 use Rattle.locks.specs.declared.Calibration.{Calibration as Outcome}
 use Rattle.locks.specs.declared.Calibration.the-variants.{Passed, Failed}
 use Rattle.locks.specs.declared.Try.{Try as Tried}
 use Rattle.locks.specs.declared.Event.{Event}
-use Rattle.locks.specs.declared.Event.the-variants.{PowerOn, ClockSetting, WarmUp, Calibration, Try, AuthorityLock, AuthorityUnlock, Upload, Start, Second, Stop, CoastDown}
+use Rattle.locks.specs.declared.Event.the-variants.{PowerOn, ClockSetting, WarmUp, Calibration, Try, AuthorityLock, AuthorityUnlock, Upload, Start, Second, Stop, CoastDown, Prepare}
 use Rattle.locks.specs.declared.Service.{Service}
 use Rattle.locks.specs.declared.Service.the-variants as service
 use Rattle.locks.specs.declared.Carried.{Carried}
@@ -26,6 +27,7 @@ described kind clock x = record { kind = kind; clock = clock; carried = x }
 -- "Events carry a clock (32 bits, seconds). Kinds: 1 power-on; 2 clock setting (new clock); 3 warm-up finished; 4 calibration (passed
 -- or not); 5 try (good with its expiry, or wrong); 6 authority lock; 7 authority unlock; 8 upload; 9 start (the seven settings, then
 -- p ..); 10 second (codes 1 to 8); 11 stop (cause)." "A run is event kind 12: inertia, power .., which run .., milliseconds".
+-- "A prepare event, kind 13, carries background HC, CO, NO in units and the HC residue".
 abbrev pub contentsOf : Event → Contents
 contentsOf (PowerOn clock) = described 1 clock (carried.Service service.Nothing)
 contentsOf (ClockSetting clock new) = described 2 clock (carried.Service (service.NewClock new))
@@ -39,6 +41,7 @@ contentsOf (Start clock settings p) = described 9 clock (carried.Start settings 
 contentsOf (Second clock readings) = described 10 clock (carried.Second readings)
 contentsOf (Stop clock cause) = described 11 clock (carried.Stop cause)
 contentsOf (CoastDown clock run) = described 12 clock (carried.Service (service.Ran run))
+contentsOf (Prepare clock check) = described 13 clock (carried.Service (service.Prepared check))
 
 -- The number of its kind.
 abbrev pub kindOf : Event → ℕ
@@ -70,6 +73,7 @@ clockWith (service.NewClock new) clock = new
 clockWith (service.Outcome outcome) clock = clock
 clockWith (service.Tried outcome) clock = clock
 clockWith (service.Ran run) clock = clock
+clockWith (service.Prepared check) clock = clock
 
 -- "its clock, or a clock setting's new one, becomes the last"
 abbrev pub clockAfter : Event → ℕ
@@ -92,6 +96,7 @@ calibrationWith clock (service.NewClock new) = none
 calibrationWith clock (service.Outcome outcome) = some (record { clock = clock; outcome = outcome })
 calibrationWith clock (service.Tried outcome) = none
 calibrationWith clock (service.Ran run) = none
+calibrationWith clock (service.Prepared check) = none
 
 -- The calibration in an event, with its clock.
 abbrev pub calibrationIn : Event → Option Calibrating
@@ -104,6 +109,7 @@ tryWith (service.NewClock new) = none
 tryWith (service.Outcome outcome) = none
 tryWith (service.Tried outcome) = some outcome
 tryWith (service.Ran run) = none
+tryWith (service.Prepared check) = none
 
 -- The try in an event.
 abbrev pub tryIn : Event → Option Tried
@@ -116,6 +122,7 @@ runWith (service.NewClock new) = none
 runWith (service.Outcome outcome) = none
 runWith (service.Tried outcome) = none
 runWith (service.Ran run) = some run
+runWith (service.Prepared check) = none
 
 -- The coast-down run in an event.
 abbrev pub runIn : Event → Option Run
@@ -136,6 +143,24 @@ ofSpeeds speeds (some run) = pick (sameSpeeds speeds (run .speeds)) (some run) n
 -- The coast-down run of these speeds in an event.
 abbrev pub runAt : SpeedRange → Event → Option Run
 runAt speeds e = ofSpeeds speeds (runIn e)
+
+-- What a prepare carries, with its clock.
+pub record Preparing : Type 0 where
+  pub clock : ℕ
+  pub check : ZeroCheck
+
+-- A prepare at this clock.
+abbrev pub prepareWith : ℕ → Service → Option Preparing
+prepareWith clock service.Nothing = none
+prepareWith clock (service.NewClock new) = none
+prepareWith clock (service.Outcome outcome) = none
+prepareWith clock (service.Tried outcome) = none
+prepareWith clock (service.Ran run) = none
+prepareWith clock (service.Prepared check) = some (record { clock = clock; check = check })
+
+-- The prepare in an event, with its clock.
+abbrev pub prepareIn : Event → Option Preparing
+prepareIn e = prepareWith (clockOf e) (serviceIn e)
 
 -- "start (the seven settings, then p ..)"
 pub record Starting : Type 0 where

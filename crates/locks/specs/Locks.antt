@@ -1,5 +1,6 @@
--- The seven locks, read from the accepted events, newest first, the start's clock, V and U. Document 01: "A start is locked by the
--- first standing one"; lock 3 with document 02, A.2. specs/Plain.antt says the same of each in plain propositions.
+-- The eight locks, read from the accepted events, newest first, the start's clock, V and U. Document 01: "A start is locked by the
+-- first standing one"; lock 3 with document 02, A.2, and lock 8 by document 02, A.5. specs/Plain.antt says the same of each in plain
+-- propositions.
 use Prim.Native.Nat.{ℕ, suc, _+_}
 use mathlib.Core.Bool.{Bool, true, false, not, _&&_, _||_}
 use mathlib.Core.List.{List, [], _∷_}
@@ -11,15 +12,16 @@ use Rattle.coast_down.specs.declared.SpeedRange.{SpeedRange}
 use Rattle.coast_down.specs.declared.SpeedRange.the-variants.{Faster, Slower}
 use Rattle.coast_down.specs.declared.Run.{Run}
 use Rattle.coast_down.specs.Passing.{runPassed}
+use Rattle.prepare.specs.Standing.{prepareStands}
 use Rattle.locks.specs.declared.Calibration.{Calibration}
 use Rattle.locks.specs.declared.Calibration.the-variants.{Passed, Failed}
 use Rattle.locks.specs.declared.Try.{Try}
 use Rattle.locks.specs.declared.Try.the-variants.{Good, Wrong}
 use Rattle.locks.specs.declared.Service.{Service}
-use Rattle.locks.specs.declared.Service.the-variants.{Nothing, NewClock, Outcome, Tried, Ran}
+use Rattle.locks.specs.declared.Service.the-variants.{Nothing, NewClock, Outcome, Tried, Ran, Prepared}
 use Rattle.locks.specs.declared.Event.{Event}
 use Rattle.locks.specs.declared.StandingLocks.{StandingLocks}
-use Rattle.locks.specs.Events.{kindOf, clockOf, serviceIn, calibrationIn, tryIn, runAt, Calibrating}
+use Rattle.locks.specs.Events.{kindOf, clockOf, serviceIn, calibrationIn, tryIn, runAt, prepareIn, Calibrating, Preparing}
 use Rattle.locks.specs.Accepted.{Accepted, isKind, since, any, latestOf}
 
 -- "Power-on and clock setting void warm-up, calibration and sign-in (as none)".
@@ -104,6 +106,7 @@ isWrong (Outcome outcome) = false
 isWrong (Tried (Good expiry)) = false
 isWrong (Tried Wrong) = true
 isWrong (Ran run) = false
+isWrong (Prepared check) = false
 
 -- "a good try ends a row"
 abbrev pub endsRow : Service → Bool
@@ -113,6 +116,7 @@ endsRow (Outcome outcome) = false
 endsRow (Tried (Good expiry)) = true
 endsRow (Tried Wrong) = false
 endsRow (Ran run) = false
+endsRow (Prepared check) = false
 
 -- "Authority unlock clears the wrong-try row, password lock and authority lock."
 abbrev pub unlocks : ℕ → Bool
@@ -162,7 +166,28 @@ unsentIn l = verdictsIn (since (isKind 8) l)
 unfoldable pub unsentLock : ℕ → List Accepted → Bool
 unsentLock limit l = eqb (unsentIn l) limit
 
--- Which of the seven stand.
+-- "Power-on and clock setting void it", and a start, "once admitted, uses it up".
+abbrev pub endsPrepare : ℕ → Bool
+endsPrepare kind = voids kind || eqb kind 9
+
+-- An accepted event that ends a prepare; an accepted start is an admitted one.
+abbrev pub prepareEnd : Accepted → Bool
+prepareEnd a = endsPrepare (kindOf (a .event))
+
+-- The latest prepare that is neither void nor used up.
+unfoldable pub latestPrepare : List Accepted → Option Preparing
+latestPrepare l = latestOf prepareIn (since prepareEnd l)
+
+-- "A start needs the latest prepare to stand and to be at most 120 s old"
+unfoldable pub noneStands : ℕ → Option Preparing → Bool
+noneStands now none = true
+noneStands now (some p) = not (prepareStands (p .check)) || ltb (p .clock + 120) now
+
+-- "Otherwise lock 8 holds, after lock 7."
+unfoldable pub notPrepared : ℕ → List Accepted → Bool
+notPrepared now l = noneStands now (latestPrepare l)
+
+-- Which of the eight stand.
 abbrev pub standingIn : ℕ → ℕ → ℕ → List Accepted → StandingLocks
 standingIn validity limit now l = record {
   «not_warm» = notWarm l;
@@ -172,9 +197,10 @@ standingIn validity limit now l = record {
   password = passwordLock l;
   authority = authorityLock l;
   unsent = unsentLock limit l;
+  unprepared = notPrepared now l;
 }
 
--- The seven in their order: one list, for the accepted events and for what the bench keeps.
+-- The eight in their order: one list, for the accepted events and for what the bench keeps.
 abbrev pub inOrder : StandingLocks → List Bool
 inOrder s =
     s .«not_warm»
@@ -184,6 +210,7 @@ inOrder s =
     ∷ s .password
     ∷ s .authority
     ∷ s .unsent
+    ∷ s .unprepared
     ∷ []
 
 -- The number of the first that stands, counted from n; 0 where none does.

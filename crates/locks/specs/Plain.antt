@@ -1,4 +1,4 @@
--- When each of the seven locks stands, in plain propositions over the accepted events, newest first, the start's clock (now), V and U.
+-- When each of the eight locks stands, in plain propositions over the accepted events, newest first, the start's clock (now), V and U.
 use Prim.Native.Nat.{ℕ, zero, suc, _+_, _≤_, _<_}
 use mathlib.Core.Bool.{true}
 use mathlib.Core.Path.{_≡_}
@@ -8,9 +8,11 @@ use Rattle.coast_down.specs.declared.SpeedRange.{SpeedRange}
 use Rattle.coast_down.specs.declared.SpeedRange.the-variants.{Faster, Slower}
 use Rattle.coast_down.specs.declared.Run.{Run}
 use Rattle.coast_down.specs.Passing.{runPassed}
+use Rattle.prepare.specs.declared.ZeroCheck.{ZeroCheck}
+use Rattle.prepare.specs.Claims.{Stands}
 use Rattle.locks.specs.declared.Calibration.the-variants.{Passed}
 use Rattle.locks.specs.declared.Try.the-variants.{Good, Wrong}
-use Rattle.locks.specs.declared.Event.the-variants.{Calibration, Try, CoastDown}
+use Rattle.locks.specs.declared.Event.the-variants.{Calibration, Try, CoastDown, Prepare}
 use Rattle.locks.specs.Events.{kindOf, clockOf}
 use Rattle.locks.specs.Accepted.{Accepted}
 use Rattle.locks.specs.Locks.{verdictsIn}
@@ -146,3 +148,23 @@ Uploads a = IsKind 8 a
 -- So many verdicts since the newest upload, or in all where there is none.
 abbrev pub Unsent : ℕ → List Accepted → Type 0
 Unsent n l = ((x : Has Uploads Uploads l) × (verdictsIn (x .after) ≡ n)) ⊎ (NoneIs Uploads l × (verdictsIn l ≡ n))
+
+-- A prepare that stands, now at most 120 s after it.
+pub record StandsWithin (now : ℕ) (a : Accepted) : Type 0 where
+  pub clock : ℕ
+  pub check : ZeroCheck
+  pub prepared : a .event ≡ Prepare clock check
+  pub stands : Stands check
+  pub valid : now ≤ clock + 120
+
+-- A power-on, a clock setting or an admitted start.
+abbrev pub EndsPrepare : Accepted → Type 0
+EndsPrepare a = Voids a ⊎ IsKind 9 a
+
+-- A prepare, or what ends one.
+abbrev pub PreparesOrEnds : Accepted → Type 0
+PreparesOrEnds a = IsKind 13 a ⊎ EndsPrepare a
+
+-- 8: no standing prepare with no prepare, power-on, clock setting or admitted start after it and now ≤ its clock + 120.
+abbrev pub NotPrepared : ℕ → List Accepted → Type 0
+NotPrepared now l = Has (StandsWithin now) PreparesOrEnds l → ⊥

@@ -6,6 +6,7 @@ use Rattle.refusal.specs.Choice.{pick}
 use Rattle.coast_down.specs.declared.SpeedRange.{SpeedRange}
 use Rattle.coast_down.specs.declared.SpeedRange.the-variants.{Faster, Slower}
 use Rattle.coast_down.specs.Passing.{runPassed}
+use Rattle.prepare.specs.Standing.{prepareStands}
 use Rattle.locks.specs.declared.Try.{Try as Tried}
 use Rattle.locks.specs.declared.Try.the-variants.{Good, Wrong}
 use Rattle.locks.specs.declared.Calibrated.{Calibrated}
@@ -14,6 +15,8 @@ use Rattle.locks.specs.declared.SignIn.{SignIn}
 use Rattle.locks.specs.declared.SignIn.the-variants.{Out, Until}
 use Rattle.locks.specs.declared.Activity.{Activity}
 use Rattle.locks.specs.declared.Activity.the-variants.{Never, Last}
+use Rattle.locks.specs.declared.Prepared.{Prepared}
+use Rattle.locks.specs.declared.Prepared.the-variants.{Not, Since}
 use Rattle.locks.specs.declared.Service.{Service}
 use Rattle.locks.specs.declared.Service.the-variants as service
 use Rattle.locks.specs.declared.Rollers.{Rollers}
@@ -23,7 +26,7 @@ use Rattle.locks.specs.declared.Locks.{Locks}
 use Rattle.locks.specs.declared.StandingLocks.{StandingLocks}
 use Rattle.locks.specs.declared.Event.{Event}
 use Rattle.locks.specs.Events.{kindOf, clockOf, serviceIn, passed}
-use Rattle.locks.specs.Locks.{voids, renews, unlocks, isWrong, endsRow, lockInOrder}
+use Rattle.locks.specs.Locks.{voids, renews, unlocks, isWrong, endsRow, endsPrepare, lockInOrder}
 
 -- No run that passed.
 abbrev pub noRuns : Rollers
@@ -37,9 +40,9 @@ noSession = record { warm = false; calibrated = No; rollers = noRuns; signed = O
 abbrev pub noSecurity : Security
 noSecurity = record { wrong = 0; password = false; authority = false }
 
--- A fresh bench: nothing warmed up, calibrated, tried, locked or unsent.
+-- A fresh bench: nothing warmed up, calibrated, tried, locked, unsent or prepared.
 abbrev pub freshLocks : Locks
-freshLocks = record { session = noSession; active = Never; security = noSecurity; unsent = 0 }
+freshLocks = record { session = noSession; active = Never; security = noSecurity; unsent = 0; prepared = Not }
 
 -- A finished warm-up, until it is void.
 unfoldable pub warmAfter : ℕ → Bool → Bool
@@ -56,6 +59,7 @@ calibratedWith clock (service.NewClock new) c = c
 calibratedWith clock (service.Outcome outcome) c = calibratedBy (passed outcome) clock No
 calibratedWith clock (service.Tried outcome) c = c
 calibratedWith clock (service.Ran run) c = c
+calibratedWith clock (service.Prepared check) c = c
 
 -- The same, until it is void.
 unfoldable pub calibratedAfter : ℕ → ℕ → Service → Calibrated → Calibrated
@@ -73,6 +77,7 @@ ranWith (service.NewClock new) k = k
 ranWith (service.Outcome outcome) k = k
 ranWith (service.Tried outcome) k = k
 ranWith (service.Ran run) k = ranBy (run .speeds) (runPassed run) k
+ranWith (service.Prepared check) k = k
 
 -- The same, until it is void.
 unfoldable pub ranAfter : ℕ → Service → Rollers → Rollers
@@ -90,6 +95,7 @@ signedWith (service.NewClock new) s = s
 signedWith (service.Outcome outcome) s = s
 signedWith (service.Tried outcome) s = signedBy outcome
 signedWith (service.Ran run) s = s
+signedWith (service.Prepared check) s = s
 
 -- The same, until it is void.
 unfoldable pub signedAfter : ℕ → Service → SignIn → SignIn
@@ -130,6 +136,23 @@ securityAfter s kind x =
 unfoldable pub unsentAfter : ℕ → ℕ → ℕ
 unsentAfter unsent kind = pick (eqb kind 8) 0 unsent
 
+-- A prepare that stands does so from its clock on; another leaves none.
+unfoldable pub preparedBy : Bool → ℕ → Prepared
+preparedBy stands clock = pick stands (Since clock) Not
+
+-- A prepare in place of the one before.
+abbrev pub preparedWith : ℕ → Service → Prepared → Prepared
+preparedWith clock service.Nothing k = k
+preparedWith clock (service.NewClock new) k = k
+preparedWith clock (service.Outcome outcome) k = k
+preparedWith clock (service.Tried outcome) k = k
+preparedWith clock (service.Ran run) k = k
+preparedWith clock (service.Prepared check) k = preparedBy (prepareStands check) clock
+
+-- The same, until it is void or used up.
+unfoldable pub preparedAfter : Prepared → ℕ → ℕ → Service → Prepared
+preparedAfter k kind clock x = pick (endsPrepare kind) Not (preparedWith clock x k)
+
 -- After an accepted event, but for its verdict.
 abbrev pub locksAfter : Locks → Event → Locks
 locksAfter k e = record {
@@ -137,6 +160,7 @@ locksAfter k e = record {
   active = activeAfter (k .active) (kindOf e) (clockOf e);
   security = securityAfter (k .security) (kindOf e) (serviceIn e);
   unsent = unsentAfter (k .unsent) (kindOf e);
+  prepared = preparedAfter (k .prepared) (kindOf e) (clockOf e) (serviceIn e);
 }
 
 -- One unsent verdict more. It is held at the greatest number of its type, which no bench reaches (`bench/specs/Claims: Bounded`): read + 1.
@@ -150,6 +174,7 @@ verdictCounted k = record {
   active = k .active;
   security = k .security;
   unsent = oneMore (k .unsent);
+  prepared = k .prepared;
 }
 
 -- Lock 1: no finished warm-up.
@@ -187,7 +212,12 @@ signedOut now s = signInOver now (s .signed)
 abbrev pub full : ℕ → ℕ → Bool
 full unsent limit = eqb unsent limit
 
--- Which of the seven stand for a start at this clock.
+-- Lock 8: no prepare that stands, or one more than 120 s old.
+abbrev pub unprepared : ℕ → Prepared → Bool
+unprepared now Not = true
+unprepared now (Since clock) = ltb (clock + 120) now
+
+-- Which of the eight stand for a start at this clock.
 abbrev pub standingOf : ℕ → ℕ → Locks → ℕ → StandingLocks
 standingOf validity limit k now = record {
   «not_warm» = cold (k .session);
@@ -197,6 +227,7 @@ standingOf validity limit k now = record {
   password = k .security .password;
   authority = k .security .authority;
   unsent = full (k .unsent) limit;
+  unprepared = unprepared now (k .prepared);
 }
 
 -- The number of the first standing lock, 0 where none stands.

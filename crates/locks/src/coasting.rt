@@ -40,6 +40,7 @@ fn ran_with(x: Service, rollers: Rollers) -> Rollers
         Service::Outcome(_) => rollers,
         Service::Tried(_) => rollers,
         Service::Ran(run) => ran_by(run, rollers),
+        Service::Prepared(_) => rollers,
     }
 }
 

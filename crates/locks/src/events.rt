@@ -17,7 +17,7 @@ fn service_event(kind: u8, clock: u32, x: Service) -> Contents
     }
 }
 
-// Document 01's number of an event's kind, its own clock and what it carries.
+// The number of an event's kind in documents 01 and 02, its own clock and what it carries.
 // Ruled out: a stop told as a second, kinds counted from 0, and a clock setting's new clock for its own.
 pub fn contents_of(event: Event) -> Contents
     ensures { λ r. ⌜ r ≡ contentsOf event ⌝ }
@@ -53,6 +53,7 @@ pub fn contents_of(event: Event) -> Contents
             carried: Carried::Stop(cause),
         },
         Event::CoastDown { clock, run } => service_event(12, clock, Service::Ran(run)),
+        Event::Prepare { clock, check } => service_event(13, clock, Service::Prepared(check)),
     }
 }
 
@@ -94,6 +95,7 @@ fn clock_with(x: Service, clock: u32) -> u32
         Service::Outcome(_) => clock,
         Service::Tried(_) => clock,
         Service::Ran(_) => clock,
+        Service::Prepared(_) => clock,
     }
 }
 

@@ -1,5 +1,5 @@
-// Document 01, "Locks of the bench", and document 02, A.2: the twelve events, and what locks a start.
-// Exported: Event, with its kind, its clocks and what it carries (Contents); Locks, what the seven locks are read from, after each
+// Document 01, "Locks of the bench", and document 02, A.2 and A.5: the thirteen events, and what locks a start.
+// Exported: Event, with its kind, its clocks and what it carries (Contents); Locks, what the eight locks are read from, after each
 // accepted event and each verdict; lock_number, the first lock that stands. specs/Locks.antt reads the same locks from the list of
 // accepted events, and specs/Plain.antt says in plain words when each stands.
 ghost use mathlib.Core.Path.{_≡_};
@@ -8,6 +8,7 @@ ghost use Rattle.locks.specs.State.{freshLocks, locksAfter, verdictCount
 
 mod coasting;
 mod events;
+mod preparing;
 mod standing;
 mod tries;
 mod validity;
@@ -16,6 +17,7 @@ pub use crate::events::clock_after;
 pub use crate::events::clock_of;
 pub use crate::events::contents_of;
 use crate::events::service_in;
+use crate::preparing::prepared_after;
 use crate::standing::active_after;
 use crate::standing::one_more;
 use crate::standing::unsent_after;
@@ -24,6 +26,7 @@ use crate::tries::security_after;
 use crate::validity::NO_SESSION;
 use crate::validity::session_after;
 use coast_down::Run;
+use prepare::ZeroCheck;
 use reading::Readings;
 use vehicle::Settings;
 
@@ -39,7 +42,8 @@ pub enum Try {
     Wrong,
 }
 
-// An event of the bench, each with its clock in seconds, in the order of document 01's kinds 1 to 11 and document 02's kind 12.
+// An event of the bench, each with its clock in seconds, in the order of document 01's kinds 1 to 11 and document 02's kinds 12
+// and 13.
 pub enum Event {
     PowerOn {
         clock: u32,
@@ -85,6 +89,10 @@ pub enum Event {
         clock: u32,
         run: Run,
     },
+    Prepare {
+        clock: u32,
+        check: ZeroCheck,
+    },
 }
 
 // What an event that is no start, second or stop carries beside its clock.
@@ -94,6 +102,7 @@ pub enum Service {
     Outcome(Calibration),
     Tried(Try),
     Ran(Run),
+    Prepared(ZeroCheck),
 }
 
 // What an event carries beside its clock.
@@ -150,15 +159,22 @@ pub struct Security {
     authority: bool,
 }
 
+// The prepare that stands: none, or the clock of one that does.
+pub enum Prepared {
+    Not,
+    Since(u32),
+}
+
 // What the locks are read from; unsent counts the verdicts since the last upload.
 pub struct Locks {
     session: Session,
     active: Activity,
     security: Security,
     unsent: u16,
+    prepared: Prepared,
 }
 
-// Which of the seven locks stand, in their order.
+// Which of the eight locks stand, in their order.
 pub(crate) struct StandingLocks {
     not_warm: bool,
     inactive: bool,
@@ -167,6 +183,7 @@ pub(crate) struct StandingLocks {
     password: bool,
     authority: bool,
     unsent: bool,
+    unprepared: bool,
 }
 
 // The locks of a fresh bench.
@@ -179,11 +196,13 @@ pub fn fresh_locks() -> Locks
         active: Activity::Never,
         security: NO_SECURITY,
         unsent: 0,
+        prepared: Prepared::Not,
     }
 }
 
 // After an accepted event, but for its verdict.
-// Ruled out: a calibration or a coast-down run that outlives a clock setting, and wrong tries cleared at power-on.
+// Ruled out: a calibration, a coast-down run or a prepare that outlives a clock setting, a prepare that a start does not use up, and wrong
+// tries cleared at power-on.
 pub fn locks_after(k: Locks, event: Event) -> Locks
     ensures { λ r. ⌜ r ≡ locksAfter k event ⌝ }
 {
@@ -194,11 +213,13 @@ pub fn locks_after(k: Locks, event: Event) -> Locks
     let session = k.session;
     let active = k.active;
     let security = k.security;
+    let prepared = k.prepared;
     Locks {
         session: session_after(session, kind, clock, service),
         active: active_after(active, kind, clock),
         security: security_after(security, kind, service),
         unsent: unsent_after(k.unsent, kind),
+        prepared: prepared_after(prepared, kind, clock, service),
     }
 }
 
@@ -214,7 +235,8 @@ pub fn verdict_counted(k: Locks) -> Locks
 
 // The number of the first lock that stands for a start at this clock with V and U, 0 where none does; with it comes when each stands,
 // in plain words.
-// Ruled out: a start at the very second of the sign-in's expiry locked by 4, and lock 7 at U − 1 verdicts.
+// Ruled out: a start at the very second of the sign-in's expiry locked by 4, lock 7 at U − 1 verdicts, and a start 121 s after the
+// prepare admitted.
 pub fn lock_number(validity: u32, limit: u16, k: Locks, now: u32) -> u8
     ensures answer { λ r. ⌜ r ≡ lockNumber validity limit k now ⌝ }
     ensures claims { λ r. ⌜ LockClaims ⌝ }

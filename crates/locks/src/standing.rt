@@ -7,6 +7,7 @@ ghost use Rattle.locks.specs.State.{activeAfter, unsentAfter, oneMore, i
 use crate::Activity;
 use crate::Locks;
 use crate::StandingLocks;
+use crate::preparing;
 use crate::validity;
 
 // "the latest warm-up or accepted second"
@@ -66,13 +67,14 @@ fn full(unsent: u16, limit: u16) -> bool
     unsent == limit
 }
 
-// The seven locks for a start at this clock.
+// The eight locks for a start at this clock.
 pub(crate) fn standing_of(validity: u32, limit: u16, k: Locks, now: u32) -> StandingLocks
     ensures { λ r. ⌜ r ≡ standingOf validity limit k now ⌝ }
 {
     let session = k.session;
     let active = k.active;
     let security = k.security;
+    let prepared = k.prepared;
     StandingLocks {
         not_warm: validity::cold(session),
         inactive: idle(active, now),
@@ -81,10 +83,11 @@ pub(crate) fn standing_of(validity: u32, limit: u16, k: Locks, now: u32) -> Stan
         password: security.password,
         authority: security.authority,
         unsent: full(k.unsent, limit),
+        unprepared: preparing::unprepared(now, prepared),
     }
 }
 
-// The number of the first of the seven that stands, 0 where none does.
+// The number of the first of the eight that stands, 0 where none does.
 pub(crate) fn first_standing(s: StandingLocks) -> u8
     ensures { λ r. ⌜ r ≡ lockInOrder s ⌝ }
 {
@@ -108,6 +111,9 @@ pub(crate) fn first_standing(s: StandingLocks) -> u8
     }
     if s.unsent {
         return 7;
+    }
+    if s.unprepared {
+        return 8;
     }
     0
 }

@@ -31,6 +31,7 @@ fn is_wrong(x: Service) -> bool
         Service::Outcome(_) => false,
         Service::Tried(outcome) => wrong_outcome(outcome),
         Service::Ran(_) => false,
+        Service::Prepared(_) => false,
     }
 }
 
@@ -53,6 +54,7 @@ fn ends_row(x: Service) -> bool
         Service::Outcome(_) => false,
         Service::Tried(outcome) => good_outcome(outcome),
         Service::Ran(_) => false,
+        Service::Prepared(_) => false,
     }
 }
 

@@ -78,6 +78,7 @@ fn calibrated_with(clock: u32, x: Service, calibrated: Calibrated) -> Calibrated
         Service::Outcome(outcome) => calibrated_by(passed(outcome), clock, Calibrated::No),
         Service::Tried(_) => calibrated,
         Service::Ran(_) => calibrated,
+        Service::Prepared(_) => calibrated,
     }
 }
 
@@ -110,6 +111,7 @@ fn signed_with(x: Service, signed: SignIn) -> SignIn
         Service::Outcome(_) => signed,
         Service::Tried(outcome) => signed_by(outcome),
         Service::Ran(_) => signed,
+        Service::Prepared(_) => signed,
     }
 }
 

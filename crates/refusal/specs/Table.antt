@@ -73,3 +73,7 @@ inertiaUnfit = refusal 16 0
 -- power of a coast-down run out of range (document 02, A.2)
 abbrev pub powerUnfit : Refusal
 powerUnfit = refusal 17 0
+
+-- background value of a prepare above its channel's greatest: the lowest such code (document 02, A.5)
+abbrev pub backgroundUnfit : ℕ → Refusal
+backgroundUnfit code = refusal 18 code

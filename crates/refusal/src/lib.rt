@@ -57,3 +57,6 @@ pub const INERTIA_UNFIT: u8 = 16;
 
 // coast-down power out of range
 pub const POWER_UNFIT: u8 = 17;
+
+// background value of a prepare above its channel's greatest
+pub const BACKGROUND_UNFIT: u8 = 18;

@@ -28,19 +28,20 @@ use Rattle.loaded_test.specs.Settling.{settlingLeft, closedOne, closedTwo, sett
 use Rattle.loaded_test.specs.Steps.{measured, inAttempt, secondAt, second, isResting, stop, begunBy, begin}
 use Rattle.loaded_test.specs.Voids.{modeEnded, voidCounted, voidNext, twiceInconclusive, thirdVoid, voidFollowed, voided, stepFive}
 use Rattle.coast_down.specs.Passing.{runPassed}
+use Rattle.prepare.specs.Standing.{signedOf, prepareStands, aboveGreatest}
 use Rattle.locks.specs.Events.{ofSpeeds}
 use Rattle.locks.specs.Accepted.{since, any, orElse, latestOf}
-use Rattle.locks.specs.Locks.{notWarm, activeClock, overdue, inactive, expired, noneValid, latestCalibration, latestRun, somePassed, notCoasted, notCalibrated, noneGood, latestTry, notSignedIn, wrongTries, wrongRow, passwordLock, authorityLock, withVerdict, verdictsIn, unsentIn, unsentLock, firstStanding, lockInOrder, lockOf}
-use Rattle.locks.specs.State.{warmAfter, calibratedBy, calibratedAfter, ranAfter, signedAfter, activeAfter, wrongAfter, securityAfter, unsentAfter, lockNumber}
+use Rattle.locks.specs.Locks.{notWarm, activeClock, overdue, inactive, expired, noneValid, latestCalibration, latestRun, somePassed, notCoasted, notCalibrated, noneGood, latestTry, notSignedIn, wrongTries, wrongRow, passwordLock, authorityLock, withVerdict, verdictsIn, unsentIn, unsentLock, latestPrepare, noneStands, notPrepared, firstStanding, lockInOrder, lockOf}
+use Rattle.locks.specs.State.{warmAfter, calibratedBy, calibratedAfter, ranAfter, signedAfter, activeAfter, wrongAfter, securityAfter, unsentAfter, preparedBy, preparedAfter, lockNumber}
 use Rattle.reading.specs.Fitness.{readingFit, leastUnfit}
-use Rattle.bench.specs.Causes.{settingAt, saturationBad, causeBad, automaticOf, readingAt, inertiaBad, powerBad, lockAt, causes, firstCause}
+use Rattle.bench.specs.Causes.{settingAt, saturationBad, causeBad, automaticOf, readingAt, inertiaBad, powerBad, backgroundAt, lockAt, causes, firstCause}
 use Rattle.bench.specs.History.{runs}
-use Rattle.bench.specs.Stepping.{inertiaRuling, powerRuling, serviceTaken, lockRuling, startTaken, secondTaken, stepBy, step}
+use Rattle.bench.specs.Stepping.{inertiaRuling, powerRuling, backgroundRuling, serviceTaken, lockRuling, startTaken, secondTaken, stepBy, step}
 use Rattle.bench.specs.Telling.{secondInput, verdictNext, verdictTold, endedBy, stepTaken, leftBy, acceptance, added, tell, historyAnswers}
 use Rattle.worked.specs.Runs.{Played}
 
 pub played : Played
-unfolding benchAnswers pick readingOf accepted unitCount Rattle.reading.specs.Rounding.halfUp judgedOf keep secondFrom secondOf dcfOf kH Rattle.correction.specs.Rounding.halfUp vehicleOf checkedOf aimOf inTolerance limitsFor rowUpTo displacementBounds loads loadFor targetFor ranges rangeAt settingFit firstUnfit unfitPlace sumOf sumNo windowPasses secondOut secondSteady measuredOf windowValid inRow inAll atNinety earlyPass endingRule firstSpeed tallied windowCounted restarted ready screened begunAnew watched settledOne settledTwo secondOne secondTwo isRunning closed concluded windowTaken windowJudged windowKept measures Rattle.loaded_test.specs.Measuring.judged replay restCount rested settlingLeft closedOne closedTwo settlesIn settles measured inAttempt secondAt second isResting stop begunBy begin Rattle.loaded_test.specs.Steps.stopTaken modeEnded voidCounted voidNext twiceInconclusive thirdVoid voidFollowed voided stepFive runPassed ofSpeeds since any orElse latestOf notWarm activeClock overdue inactive expired noneValid latestCalibration latestRun somePassed notCoasted notCalibrated noneGood latestTry notSignedIn wrongTries wrongRow passwordLock authorityLock withVerdict verdictsIn unsentIn unsentLock firstStanding lockInOrder lockOf warmAfter calibratedBy calibratedAfter ranAfter signedAfter activeAfter wrongAfter securityAfter unsentAfter lockNumber settingAt saturationBad causeBad automaticOf readingFit leastUnfit readingAt inertiaBad powerBad lockAt causes firstCause runs inertiaRuling powerRuling serviceTaken lockRuling startTaken secondTaken stepBy step Rattle.bench.specs.Stepping.stopTaken secondInput verdictNext verdictTold endedBy stepTaken leftBy acceptance added tell historyAnswers Rattle.bench.specs.Telling.judged
+unfolding benchAnswers pick readingOf accepted unitCount Rattle.reading.specs.Rounding.halfUp judgedOf keep secondFrom secondOf dcfOf kH Rattle.correction.specs.Rounding.halfUp vehicleOf checkedOf aimOf inTolerance limitsFor rowUpTo displacementBounds loads loadFor targetFor ranges rangeAt settingFit firstUnfit unfitPlace sumOf sumNo windowPasses secondOut secondSteady measuredOf windowValid inRow inAll atNinety earlyPass endingRule firstSpeed tallied windowCounted restarted ready screened begunAnew watched settledOne settledTwo secondOne secondTwo isRunning closed concluded windowTaken windowJudged windowKept measures Rattle.loaded_test.specs.Measuring.judged replay restCount rested settlingLeft closedOne closedTwo settlesIn settles measured inAttempt secondAt second isResting stop begunBy begin Rattle.loaded_test.specs.Steps.stopTaken modeEnded voidCounted voidNext twiceInconclusive thirdVoid voidFollowed voided stepFive runPassed signedOf prepareStands aboveGreatest ofSpeeds since any orElse latestOf notWarm activeClock overdue inactive expired noneValid latestCalibration latestRun somePassed notCoasted notCalibrated noneGood latestTry notSignedIn wrongTries wrongRow passwordLock authorityLock withVerdict verdictsIn unsentIn unsentLock latestPrepare noneStands notPrepared firstStanding lockInOrder lockOf warmAfter calibratedBy calibratedAfter ranAfter signedAfter activeAfter wrongAfter securityAfter unsentAfter preparedBy preparedAfter lockNumber settingAt saturationBad causeBad automaticOf readingFit leastUnfit readingAt inertiaBad powerBad backgroundAt lockAt causes firstCause runs inertiaRuling powerRuling backgroundRuling serviceTaken lockRuling startTaken secondTaken stepBy step Rattle.bench.specs.Stepping.stopTaken secondInput verdictNext verdictTold endedBy stepTaken leftBy acceptance added tell historyAnswers Rattle.bench.specs.Telling.judged
 played = record {
   passing = record { bench = refl; history = refl };
   afterVoid = record { bench = refl; history = refl };
@@ -62,6 +63,14 @@ played = record {
   failedRunLast = record { bench = refl; history = refl };
   runRenewsNothing = record { bench = refl; history = refl };
   runsRefused = record { bench = refl; history = refl };
+  usedUp = record { bench = refl; history = refl };
+  usedUpByPowerOn = record { bench = refl; history = refl };
+  refusedStart = record { bench = refl; history = refl };
+  prepareVoided = record { bench = refl; history = refl };
+  twoMinutes = record { bench = refl; history = refl };
+  failedPrepareLast = record { bench = refl; history = refl };
+  preparesRefused = record { bench = refl; history = refl };
+  prepareRenewsNothing = record { bench = refl; history = refl };
   oneOfEach = record { bench = refl; history = refl };
   firstOfSeveral = record { bench = refl; history = refl };
   clockKept = record { bench = refl; history = refl };

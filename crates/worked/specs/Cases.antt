@@ -1,10 +1,12 @@
 -- Document 01, "Worked by hand": the starred cases as one table. Each row sets what the definitions give against what document 01 writes.
--- At its end stand figures for document 02: A.1, the engine speed on the sheet, A.2, coast-down runs, and A.3, the numbers of a rounding.
+-- At its end stand figures for document 02: A.1, the engine speed on the sheet, A.2, coast-down runs, A.3, the numbers of a rounding, and
+-- A.5, prepares.
 use mathlib.Core.Path.{_≡_}
 use mathlib.Core.Bool.{Bool, true, false}
 use mathlib.Core.List.{List, [], _∷_}
 use mathlib.Core.Option.{none}
 use Prim.Native.Nat.{ℕ, zero, suc, _<_}
+use lib.IntN.{ℤ, pos, negsuc}
 use Rattle.refusal.specs.Table.{refusal}
 use Rattle.reading.specs.Width.{scaled, greatestProduct}
 use Rattle.reading.specs.Kind.{readingOf}
@@ -25,12 +27,13 @@ use Rattle.window.specs.Engine.{engineSpeedOf}
 use Rattle.coast_down.specs.declared.SpeedRange.{SpeedRange}
 use Rattle.coast_down.specs.declared.SpeedRange.the-variants.{Faster, Slower}
 use Rattle.coast_down.specs.Passing.{runPassed}
+use Rattle.prepare.specs.Standing.{signedOf, prepareStands, aboveGreatest}
 use Rattle.locks.specs.Accepted.{Accepted, accepted}
 use Rattle.locks.specs.Locks.{passwordLock, lockOf}
 use Rattle.locks.specs.declared.Calibration.the-variants.{Passed}
 use Rattle.locks.specs.declared.Try.the-variants.{Good, Wrong}
 use Rattle.locks.specs.declared.Event.the-variants.{WarmUp, Calibration, Try}
-use Rattle.worked.specs.Events.{times, motorcycle, runWith, faster, slower}
+use Rattle.worked.specs.Events.{times, motorcycle, runWith, faster, slower, checkWith, prepared}
 
 -- The units of a second whose HC and CO have these bits and whose other readings are 0, with a manual gearbox.
 unfoldable pub gases : ℕ → ℕ → Converted
@@ -67,10 +70,11 @@ counts hc co = record {
 abbrev pub dcfAt : ℕ → ℕ → ℕ
 dcfAt a b = dcfOf (record { 0 = a }) (record { 0 = b })
 
--- A bench warmed up, calibrated and coasted down, then n wrong tries, newest first; V a day and U 10, and a start at clock 100.
+-- A bench warmed up, calibrated, coasted down and prepared, then n wrong tries, newest first; V a day and U 10, and a start at clock 100.
 unfoldable pub wrongTries : ℕ → List Accepted
 wrongTries zero =
-    accepted (slower 20) none
+    accepted (prepared 20) none
+    ∷ accepted (slower 20) none
     ∷ accepted (faster 20) none
     ∷ accepted (Calibration 20 Passed) none
     ∷ accepted (WarmUp 10) none
@@ -114,7 +118,19 @@ engineless = engineKept 0 true
 abbrev pub coasts : ℕ → ℕ → SpeedRange → ℕ → Bool
 coasts inertia power speeds milliseconds = runPassed (runWith inertia power speeds milliseconds)
 
--- The starred cases of "Worked by hand", one field a case; then the figures for document 02's A.1, A.2 and A.3.
+-- Whether a prepare of this background and residue stands.
+abbrev pub stands : ℕ → ℕ → ℕ → ℕ → Bool
+stands hc co nitric residue = prepareStands (checkWith hc co nitric residue)
+
+-- The signed number of these 16 bits.
+abbrev pub signedBits : ℕ → ℤ
+signedBits bits = signedOf (record { 0 = bits })
+
+-- The code that refuses a prepare of this background, 0 where none does.
+abbrev pub aboveAt : ℕ → ℕ → ℕ → ℕ
+aboveAt hc co nitric = aboveGreatest (checkWith hc co nitric 0)
+
+-- The starred cases of "Worked by hand", one field a case; then the figures for document 02's A.1, A.2, A.3 and A.5.
 pub record Worked : Type 0 where
   -- CO bits 0x3F80A3D7: 100
   pub coBits : gases 0 0x3F80A3D7 ≡ Fit (counts 0 100)
@@ -169,3 +185,20 @@ pub record Worked : Type 0 where
   -- 1.9999999 (bits 0x3FFFFFFF), whose unit count is 200
   pub greatestMet : scaled 0x3FFFFFFF 100 ≡ greatestProduct
   pub coAllDigits : gases 0 0x3FFFFFFF ≡ Fit (counts 0 200)
+  -- Document 02, A.5, "HC < 15, CO < 2, NO < 25 and the residue is 0 to 7": each end from both sides; −1 is 65535, −32,768 is 32768
+  pub standsLeast : stands 0 0 0 0 ≡ true
+  pub standsMost : stands 14 1 24 7 ≡ true
+  pub hcTooMuch : stands 15 1 24 7 ≡ false
+  pub coTooMuch : stands 14 2 24 7 ≡ false
+  pub noTooMuch : stands 14 1 25 7 ≡ false
+  pub residueTooMuch : stands 14 1 24 8 ≡ false
+  pub residueBelow : stands 14 1 24 65535 ≡ false
+  pub residueNegative : stands 14 1 24 32768 ≡ false
+  pub minusOne : signedBits 65535 ≡ negsuc 0
+  pub leastSigned : signedBits 32768 ≡ negsuc 32767
+  pub greatestSigned : signedBits 32767 ≡ pos 32767
+  -- Document 02, A.5, "above its channel's greatest, place the lowest such code": HC 9999, CO 2000, NO 5000
+  pub noneAbove : aboveAt 9999 2000 5000 ≡ 0
+  pub noAbove : aboveAt 9999 2000 5001 ≡ 6
+  pub coAbove : aboveAt 9999 2001 5001 ≡ 5
+  pub hcGreater : aboveAt 10000 2001 5001 ≡ 4

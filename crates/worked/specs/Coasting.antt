@@ -6,12 +6,12 @@ use Rattle.coast_down.specs.declared.SpeedRange.the-variants.{Faster, Slower}
 use Rattle.locks.specs.declared.Calibration.the-variants.{Passed}
 use Rattle.locks.specs.declared.Event.{Event}
 use Rattle.locks.specs.declared.Event.the-variants.{PowerOn, ClockSetting, WarmUp, Calibration, CoastDown}
-use Rattle.worked.specs.Events.{runWith, coasting, faster, slower, signIn, ready, start}
+use Rattle.worked.specs.Events.{runWith, coasting, faster, slower, prepared, signIn, ready, start}
 use Rattle.worked.specs.Answers.{Exchange, accepts, refuses, accepted}
 
 -- The events, at one clock, that leave no lock but 3 standing, and that for want of coast-down runs alone.
 abbrev pub uncoasted : ℕ → List Event
-uncoasted now = WarmUp now ∷ Calibration now Passed ∷ signIn now ∷ []
+uncoasted now = WarmUp now ∷ Calibration now Passed ∷ signIn now ∷ prepared now ∷ []
 
 -- A start is locked by 3 until both runs have passed; a failed run is accepted and lifts nothing.
 abbrev pub coastedFirst : List Exchange

@@ -11,10 +11,11 @@ use Rattle.vehicle.specs.declared.Settings.{Settings}
 use Rattle.coast_down.specs.declared.SpeedRange.{SpeedRange}
 use Rattle.coast_down.specs.declared.SpeedRange.the-variants.{Faster, Slower}
 use Rattle.coast_down.specs.declared.Run.{Run}
+use Rattle.prepare.specs.declared.ZeroCheck.{ZeroCheck}
 use Rattle.locks.specs.declared.Calibration.the-variants.{Passed}
 use Rattle.locks.specs.declared.Try.the-variants.{Good}
 use Rattle.locks.specs.declared.Event.{Event}
-use Rattle.locks.specs.declared.Event.the-variants.{WarmUp, Calibration, Try, Start, Second, CoastDown}
+use Rattle.locks.specs.declared.Event.the-variants.{WarmUp, Calibration, Try, Start, Second, CoastDown, Prepare}
 
 -- n times the same, in front of a list.
 abbrev pub times : {A : Type 0} → ℕ → A → List A → List A
@@ -42,13 +43,33 @@ faster now = coasting now Faster 5926
 abbrev pub slower : ℕ → Event
 slower now = coasting now Slower 3704
 
--- The events, at one clock, that leave lock 4 alone standing: a warm-up, a passed calibration and a passed run of each speed.
+-- A zero check of this background and the bits of this residue.
+abbrev pub checkWith : ℕ → ℕ → ℕ → ℕ → ZeroCheck
+checkWith hc co nitric residue = record { hc = hc; co = co; no = nitric; residue = record { 0 = residue } }
+
+-- A prepare of this background and residue.
+abbrev pub preparing : ℕ → ℕ → ℕ → ℕ → ℕ → Event
+preparing now hc co nitric residue = Prepare now (checkWith hc co nitric residue)
+
+-- One that stands, each value the greatest with which it does.
+abbrev pub prepared : ℕ → Event
+prepared now = preparing now 14 1 24 7
+
+-- The events, at one clock, that leave locks 4 and 8 alone standing: a warm-up, a passed calibration and a passed run of each speed.
+abbrev pub signedOutUnprepared : ℕ → List Event
+signedOutUnprepared now = WarmUp now ∷ Calibration now Passed ∷ faster now ∷ slower now ∷ []
+
+-- Those that leave lock 4 alone standing: with a prepare.
 abbrev pub signedOut : ℕ → List Event
-signedOut now = WarmUp now ∷ Calibration now Passed ∷ faster now ∷ slower now ∷ []
+signedOut now = prepared now ∷ signedOutUnprepared now
 
 -- A sign-in for 100 s.
 abbrev pub signIn : ℕ → Event
 signIn now = Try now (Good (now + 100))
+
+-- The events, at one clock, that leave lock 8 alone standing.
+abbrev pub unprepared : ℕ → List Event
+unprepared now = signIn now ∷ signedOutUnprepared now
 
 -- The events, at one clock, that leave no lock standing for a start within 100 s.
 abbrev pub ready : ℕ → List Event

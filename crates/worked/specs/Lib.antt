@@ -4,6 +4,7 @@ pub mod Answers
 pub mod Tests
 pub mod Locking
 pub mod Coasting
+pub mod Preparing
 pub mod Refusing
 pub mod Voiding
 pub mod Dipping

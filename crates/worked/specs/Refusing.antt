@@ -50,11 +50,11 @@ clockKept =
     ∷ refuses (Stop 1 1) 11 2
     ∷ [])
 
--- 32 bits of clock: the calibration's with V and the warm-up's with 1,800 lie beyond 2^32, and nothing wraps; after the greatest clock
--- a smaller one is earlier, until a clock setting.
+-- 32 bits of clock: the calibration's with V, the warm-up's with 1,800 and the prepare's with 120 lie beyond 2^32, and nothing wraps;
+-- after the greatest clock a smaller one is earlier, until a clock setting.
 abbrev pub greatestClocks : List Exchange
 greatestClocks =
-    accepted (ready 4294967100)
+    accepted (ready 4294967180)
     (accepts (start 4294967190)
     ∷ accepts (Second 4294967295 (one Missing clean))
     ∷ refuses (Second 0 (one Missing clean)) 11 4294967295

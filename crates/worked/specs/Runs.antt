@@ -11,6 +11,7 @@ use Rattle.worked.specs.Answers.{Exchange, eventsOf, answersOf}
 use Rattle.worked.specs.Tests as tests
 use Rattle.worked.specs.Locking as locking
 use Rattle.worked.specs.Coasting as coasting
+use Rattle.worked.specs.Preparing as preparing
 use Rattle.worked.specs.Refusing as refusing
 use Rattle.worked.specs.Voiding.{SevenFirst}
 use Rattle.worked.specs.Dipping as dipping
@@ -53,6 +54,15 @@ pub record Played : Type 0 where
   pub failedRunLast : Answered coasting.failedRunLast
   pub runRenewsNothing : Answered coasting.runRenewsNothing
   pub runsRefused : Answered coasting.runsRefused
+  -- prepares
+  pub usedUp : Answered preparing.usedUp
+  pub usedUpByPowerOn : Answered preparing.usedUpByPowerOn
+  pub refusedStart : Answered preparing.refusedStart
+  pub prepareVoided : Answered preparing.prepareVoided
+  pub twoMinutes : Answered preparing.twoMinutes
+  pub failedPrepareLast : Answered preparing.failedPrepareLast
+  pub preparesRefused : Answered preparing.preparesRefused
+  pub prepareRenewsNothing : Answered preparing.prepareRenewsNothing
   -- the refusal table and the clock
   pub oneOfEach : Answered refusing.oneOfEach
   pub firstOfSeveral : Answered refusing.firstOfSeveral

@@ -26,9 +26,12 @@ security-after-requires c κs = search needs
 unsent-after-requires : tie.Need-unsent-after-requires
 unsent-after-requires c κs = search needs
 
+prepared-after-requires : tie.Need-prepared-after-requires
+prepared-after-requires c κs = search needs
+
 -- src/lib.rt:173:1
 returns : tie.Need-returns
-returns c = simp (c .unsent-after .ensures, c .before .security-after .ensures, c .before .before .active-after .ensures, c .before .before .before .session-after .ensures, c .before .before .before .before .before .before .service-in .ensures, c .before .before .before .before .before .before .before .contents-of .ensures)
+returns c = simp (c .prepared-after .ensures, c .before .unsent-after .ensures, c .before .before .security-after .ensures, c .before .before .before .active-after .ensures, c .before .before .before .before .session-after .ensures, c .before .before .before .before .before .before .before .service-in .ensures, c .before .before .before .before .before .before .before .before .contents-of .ensures)
 
 pub locks-after-spec : {M : Type 1} → statement M
 locks-after-spec =
@@ -40,4 +43,5 @@ locks-after-spec =
     active-after-requires
     security-after-requires
     unsent-after-requires
+    prepared-after-requires
     returns)

@@ -26,6 +26,9 @@ enum-known-x c = search needs
 ran-by-requires : tie.Need-ran-by-requires
 ran-by-requires c κs = search needs
 
+enum-told-5 : tie.Need-enum-told-5
+enum-told-5 c = search needs
+
 -- src/coasting.rt:34:1
 returns : tie.Need-returns
 returns c = search needs
@@ -46,6 +49,9 @@ returns-4 c = search needs
 returns-5 : tie.Need-returns-5
 returns-5 c = simp (c .before .before .x .given .1) (c .ran-by .ensures)
 
+returns-6 : tie.Need-returns-6
+returns-6 c = search needs
+
 pub ran-with-spec : {M : Type 1} → statement M
 ran-with-spec =
     tie.close
@@ -56,8 +62,10 @@ ran-with-spec =
     enum-told-4
     enum-known-x
     ran-by-requires
+    enum-told-5
     returns
     returns-2
     returns-3
     returns-4
-    returns-5)
+    returns-5
+    returns-6)

@@ -86,6 +86,14 @@ enum-known-event-12 c = search needs
 service-event-requires-9 : tie.Need-service-event-requires-9
 service-event-requires-9 c κs = search needs
 
+-- src/events.rt:56:26
+enum-known-event-13 : tie.Need-enum-known-event-13
+enum-known-event-13 c = search needs
+
+-- src/events.rt:56:44
+service-event-requires-10 : tie.Need-service-event-requires-10
+service-event-requires-10 c κs = search needs
+
 -- src/events.rt:22:1
 returns : tie.Need-returns
 returns c = simp (c .before .before .event .given .1) (c .service-event .ensures)
@@ -134,6 +142,10 @@ returns-11 c = simp (c .before .event11 .given .1)
 returns-12 : tie.Need-returns-12
 returns-12 c = simp (c .before .before .event12 .given .1) (c .service-event9 .ensures)
 
+-- src/events.rt:22:1
+returns-13 : tie.Need-returns-13
+returns-13 c = simp (c .before .before .event13 .given .1) (c .service-event10 .ensures)
+
 pub contents-of-spec : {M : Type 1} → statement M
 contents-of-spec =
     tie.close
@@ -159,6 +171,8 @@ contents-of-spec =
     enum-known-event-11
     enum-known-event-12
     service-event-requires-9
+    enum-known-event-13
+    service-event-requires-10
     returns
     returns-2
     returns-3
@@ -170,4 +184,5 @@ contents-of-spec =
     returns-9
     returns-10
     returns-11
-    returns-12)
+    returns-12
+    returns-13)

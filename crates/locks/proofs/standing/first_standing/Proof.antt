@@ -38,12 +38,15 @@ returns-7 : tie.Need-returns-7
 unfolding lockInOrder firstStanding pick
 returns-7 c = simp (c .before .before .before .before .before .before .if1 .left, c .before .before .before .before .before .if2 .left, c .before .before .before .before .if3 .left, c .before .before .before .if4 .left, c .before .before .if5 .left, c .before .if6 .left, c .if7 .taken)
 
--- src/standing.rt:88:1
 returns-8 : tie.Need-returns-8
 unfolding lockInOrder firstStanding pick
-returns-8 c = simp (c .before .before .before .before .before .before .if1 .left, c .before .before .before .before .before .if2 .left, c .before .before .before .before .if3 .left, c .before .before .before .if4 .left, c .before .before .if5 .left, c .before .if6 .left, c .if7 .left)
+returns-8 c = simp (c .before .before .before .before .before .before .before .if1 .left, c .before .before .before .before .before .before .if2 .left, c .before .before .before .before .before .if3 .left, c .before .before .before .before .if4 .left, c .before .before .before .if5 .left, c .before .before .if6 .left, c .before .if7 .left, c .if8 .taken)
+
+returns-9 : tie.Need-returns-9
+unfolding lockInOrder firstStanding pick
+returns-9 c = simp (c .before .before .before .before .before .before .before .if1 .left, c .before .before .before .before .before .before .if2 .left, c .before .before .before .before .before .if3 .left, c .before .before .before .before .if4 .left, c .before .before .before .if5 .left, c .before .before .if6 .left, c .before .if7 .left, c .if8 .left)
 
 pub first-standing-spec : {M : Type 1} → statement M
 first-standing-spec =
     tie.close
-    (tie.spec returns returns-2 returns-3 returns-4 returns-5 returns-6 returns-7 returns-8)
+    (tie.spec returns returns-2 returns-3 returns-4 returns-5 returns-6 returns-7 returns-8 returns-9)

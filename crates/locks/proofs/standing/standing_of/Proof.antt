@@ -22,9 +22,12 @@ signed-out-requires c κs = search needs
 full-requires : tie.Need-full-requires
 full-requires c κs = search needs
 
+unprepared-requires : tie.Need-unprepared-requires
+unprepared-requires c κs = search needs
+
 -- src/standing.rt:70:1
 returns : tie.Need-returns
-returns c = simp (c .full .ensures, c .before .signed-out .ensures, c .before .before .uncalibrated .ensures, c .before .before .before .idle .ensures, c .before .before .before .before .cold .ensures)
+returns c = simp (c .unprepared .ensures, c .before .full .ensures, c .before .before .signed-out .ensures, c .before .before .before .uncalibrated .ensures, c .before .before .before .before .idle .ensures, c .before .before .before .before .before .cold .ensures)
 
 pub standing-of-spec : {M : Type 1} → statement M
 standing-of-spec =
@@ -35,4 +38,5 @@ standing-of-spec =
     uncalibrated-requires
     signed-out-requires
     full-requires
+    unprepared-requires
     returns)

@@ -31,6 +31,9 @@ enum-told-3 c = search needs
 enum-told-4 : tie.Need-enum-told-4
 enum-told-4 c = search needs
 
+enum-told-5 : tie.Need-enum-told-5
+enum-told-5 c = search needs
+
 -- src/validity.rt:72:1
 returns : tie.Need-returns
 returns c = search needs
@@ -51,6 +54,9 @@ returns-4 c = search needs
 returns-5 : tie.Need-returns-5
 returns-5 c = search needs
 
+returns-6 : tie.Need-returns-6
+returns-6 c = search needs
+
 pub calibrated-with-spec : {M : Type 1} → statement M
 calibrated-with-spec =
     tie.close
@@ -62,8 +68,10 @@ calibrated-with-spec =
     calibrated-by-requires
     enum-told-3
     enum-told-4
+    enum-told-5
     returns
     returns-2
     returns-3
     returns-4
-    returns-5)
+    returns-5
+    returns-6)
