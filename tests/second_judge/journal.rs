@@ -238,6 +238,11 @@ impl Journal {
     /// Lock 6, behind lock 5 too.
     pub fn authority_lock(&mut self) {
         self.fresh();
+        self.locks_6_and_5();
+    }
+
+    /// A start under lock 6, one under both, and one behind the unlock.
+    pub fn locks_6_and_5(&mut self) {
         self.after(0, Event::AuthorityLock);
         self.start();
         self.add(&[WRONG, WRONG, WRONG, WRONG, SIGN_IN]);

@@ -137,12 +137,7 @@ impl Journal {
         self.now += 1801;
         self.start();
         self.ready_but_prepare();
-        self.after(0, Event::AuthorityLock);
-        self.start();
-        self.add(&[WRONG, WRONG, WRONG, WRONG, SIGN_IN]);
-        self.start();
-        self.after(0, Event::AuthorityUnlock);
-        self.start();
+        self.locks_6_and_5();
     }
 
     /// Every kind that leaves a prepare between it and its start, on a bench that lacks a prepare alone.
