@@ -3,10 +3,9 @@
 use crate::dice::Dice;
 use crate::items::Items;
 use crate::make_records::{
-    damage_entry, damaged_record, put_item, scripted_content, short_content, DAMAGES, NEEDLESS,
+    damage_entry, damaged_record, put_item, scripted_content, short_content, DAMAGES,
 };
 use crate::make_tests::put_topic;
-use crate::make_wide::{wide_bytes, wide_contents};
 use crate::modes::write_item;
 use crate::named_records::{listing, small_record};
 use crate::numbers::refusal;
@@ -14,12 +13,11 @@ use crate::record::Content;
 use crate::rejudging::rejudge_line;
 use crate::scripted_tests::SCRIPTS;
 
-/// A record of so many channels, rows and stops; past 33 channels with codes above 255.
+/// A record of so many channels, rows and stops.
 pub fn sized_content(channels: usize, rows: usize, stops: usize) -> Content {
     let mut content = listing(0);
-    let carried = if channels > 33 { 1000 } else { 200 };
     while content.codes.len() < channels {
-        content.codes.push(carried + content.codes.len() as u16);
+        content.codes.push(200 + content.codes.len() as u8);
     }
     content.cells = (0..rows * channels)
         .map(|i| (i as u32).wrapping_mul(2_654_435_761))
@@ -40,13 +38,11 @@ pub fn corner_contents() -> Vec<Content> {
         sized_content(6, 1500, 1), // the most rows
         sized_content(6, 1501, 0),
         sized_content(13, 1154, 0), // 15,002 cells: the least above 15,000 that rows fill
-        sized_content(60, 250, 255), // wide, 15,000 cells: the longest record
-        sized_content(60, 251, 0),
+        sized_content(30, 500, 255), // 15,000 cells, the longest record
     ];
     list.extend(code_corners());
     list.extend(value_corners());
     list.extend(stop_corners());
-    list.extend(wide_contents());
     list
 }
 
@@ -120,68 +116,42 @@ fn stop_corners() -> Vec<Content> {
     list
 }
 
-/// A small record of either form.
-fn small_contents() -> [Content; 2] {
-    let narrow = sized_content(6, 2, 2);
-    let mut wide = sized_content(7, 1, 2);
-    wide.codes[6] = 300;
-    [narrow, wide]
-}
-
-/// Every length of a record, and one to three bytes more.
-fn put_lengths(out: &mut Vec<u8>, record: &[u8]) {
-    for length in 0..=record.len() {
-        put_item(out, &record[..length]);
-    }
-    for extra in 1..=3 {
-        put_item(out, &[record, &vec![9; extra][..]].concat());
-    }
-}
-
-/// Each count of a record changed.
-fn put_counts(out: &mut Vec<u8>, content: &Content) {
-    let end = content.channels_end();
-    let counts: [(usize, &[u8]); 5] = [
-        (0, &[0, 1, 33, 255]),
-        (end, &[6, 8]),
-        (end + 15, &[28, 30]),
-        (end + 74, &[0, 1, 3]),
-        (end + 76 + 4 * content.cells.len(), &[1, 3]),
-    ];
-    for (at, values) in counts {
-        for value in values {
-            let mut record = content.bytes();
-            record[at] = *value;
-            put_item(out, &record);
-            // The count alone, and the count with nothing after it, are judged first.
-            put_item(out, &record[..at + 1]);
-        }
-    }
-}
-
 pub fn make_read(seed: u64, count: usize) -> Vec<u8> {
     let mut dice = Dice(seed ^ 0x7265_6164);
     let mut out = Vec::new();
-    for content in small_contents() {
-        put_lengths(&mut out, &content.bytes());
-        put_counts(&mut out, &content);
+    let small = sized_content(6, 2, 2).bytes();
+    for length in 0..=small.len() {
+        put_item(&mut out, &small[..length]);
+    }
+    for extra in 1..=3 {
+        put_item(&mut out, &[&small[..], &vec![9; extra][..]].concat());
     }
     for content in corner_contents() {
         let mut bytes = content.bytes();
-        let rows_count = content.channels_end() + 74;
-        if content.check() == Err(refusal(2, rows_count)) {
-            bytes.truncate(rows_count + 2); // the count of rows is judged before they are there
+        if content.check() == Err(refusal(2, content.codes.len() + 75)) {
+            bytes.truncate(content.codes.len() + 77); // the count of rows is judged before they are there
         }
         put_item(&mut out, &bytes);
     }
     put_two_faults(&mut out);
-    let wide = wide_bytes();
-    wide.iter().for_each(|bytes| put_item(&mut out, bytes));
+    let counts: [(usize, &[u8]); 5] = [
+        (0, &[0, 1, 33]),
+        (7, &[6, 8]),
+        (22, &[28, 30]),
+        (81, &[1, 3]),
+        (131, &[1, 3]),
+    ];
+    for (at, values) in counts {
+        for value in values {
+            let mut record = small.clone();
+            record[at] = *value;
+            put_item(&mut out, &record);
+            // The count alone, and the count with nothing after it, are judged first.
+            put_item(&mut out, &record[..at + 1]);
+        }
+    }
     for _ in 0..count {
-        let way = match dice.below(14) as usize {
-            13 => NEEDLESS,
-            way => way,
-        };
+        let way = dice.below(13) as usize;
         let mut record = damaged_record(way, &mut dice);
         if dice.percent(30) && !record.is_empty() {
             let i = dice.below(record.len() as u64) as usize;
@@ -210,14 +180,11 @@ fn put_two_faults(out: &mut Vec<u8>) {
             put_item(out, &both_changed(first, second).bytes());
         }
     }
-    for code in [8, 300] {
-        let content = changed(|c| (c.codes[7], c.saturation[28]) = (code, 4301));
-        let (mut rows, at) = (content.bytes(), content.channels_end() + 74);
-        rows[at..at + 2].copy_from_slice(&1501u16.to_le_bytes());
-        put_item(out, &rows);
-        rows[at - 2..at].copy_from_slice(&4300u16.to_le_bytes());
-        put_item(out, &rows);
-    }
+    let mut rows = changed(|c| c.saturation[28] = 4301).bytes();
+    rows[83..85].copy_from_slice(&1501u16.to_le_bytes());
+    put_item(out, &rows);
+    rows[80..82].copy_from_slice(&4300u16.to_le_bytes());
+    put_item(out, &rows);
 }
 
 fn both_changed(first: impl Fn(&mut Content), second: impl Fn(&mut Content)) -> Content {
@@ -231,10 +198,7 @@ pub fn put_content(out: &mut Vec<u8>, length: usize, fill: u8, content: &Content
     out.extend((length as u32).to_le_bytes());
     out.push(fill);
     out.extend((content.codes.len() as u16).to_le_bytes());
-    content
-        .codes
-        .iter()
-        .for_each(|code| out.extend(code.to_le_bytes()));
+    out.extend(&content.codes);
     for section in [&content.settings, &content.saturation] {
         out.extend((section.len() as u16).to_le_bytes());
         section
@@ -260,16 +224,14 @@ fn unwritable_contents() -> Vec<Content> {
     let mut list = vec![
         Content::default(),
         changed(|c| c.codes.clear()),
-        changed(|c| c.codes = (1..=33).collect()), // the cells fill no row
-        changed(|c| c.codes = (0..300).collect()),
+        changed(|c| c.codes = (1..=33).collect()),
+        changed(|c| c.codes = (0..300).map(|i| i as u8).collect()),
         changed(|c| c.stop_rows = vec![1; 256]),
         changed(|c| (c.stop_rows, c.stop_causes) = (vec![1; 256], vec![1; 256])),
         changed(|c| (c.stop_rows, c.stop_causes) = (vec![1; 255], vec![1; 255])),
         changed(|c| (c.stop_rows, c.stop_causes) = (vec![9; 4], vec![0; 3])),
         changed(|c| c.stop_causes.clear()),
         changed(|c| c.stop_rows.clear()),
-        changed(|c| (c.codes[7], c.stop_rows) = (300, vec![1; 256])),
-        changed(|c| (c.codes[7], c.stop_causes) = (300, vec![0; 2])),
     ];
     for count in [0, 6, 8, 263] {
         list.push(changed(|c| c.settings.resize(count, 1)));
@@ -319,26 +281,16 @@ fn put_line_item(out: &mut Vec<u8>, length: usize, fill: u8, record: &[u8]) {
 }
 
 /// Records for the line: a verdict, open ones with a window and its engine speed and without,
-/// refused ones, and wide ones.
+/// and refused ones.
 fn line_records() -> Vec<Vec<u8>> {
     let short = listing(0).bytes();
     vec![
         listing(36).bytes(),
         small_record("engine_half_up").unwrap_or_default(),
-        small_record("refused_19").unwrap_or_default(),
-        small_record("refused_8_wide").unwrap_or_default(),
-        wide_line(),
         short.clone(),
         short[..20].to_vec(),
         Vec::new(),
     ]
-}
-
-/// Document 01's empty record with a channel of code 1025.
-fn wide_line() -> Vec<u8> {
-    let mut content = listing(0);
-    content.codes.push(1025);
-    content.bytes()
 }
 
 /// Each record into outputs of every length up to 3 above its line's, and long ones; then

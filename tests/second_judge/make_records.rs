@@ -3,10 +3,9 @@
 use crate::bench::step_of;
 use crate::dice::{some_saturation, some_settings, spoil_setting, Dice};
 use crate::driver::{driven_test, unfit_bits};
-use crate::make_wide::wide_records;
 use crate::named_records::{small_record, RECORDS};
 use crate::numbers::OVER;
-use crate::record::{Content, Form};
+use crate::record::Content;
 use crate::running::Running;
 use crate::script::{encode, Item, Script};
 use crate::scripted_tests::{scripted_gearbox, scripted_test, FIRST_DIP, PAST_DIPS, SCRIPTS};
@@ -23,8 +22,8 @@ fn shuffle<T>(list: &mut [T], dice: &mut Dice) {
     }
 }
 
-/// Codes for a record: the required ones, 3 and 8 or not, some above 8, in a quarter some above 255.
-fn some_codes(automatic: bool, dice: &mut Dice) -> Vec<u16> {
+/// Codes for a record: the required ones, 3 and 8 or not, some above 8.
+fn some_codes(automatic: bool, dice: &mut Dice) -> Vec<u8> {
     let mut codes = vec![1, 2, 4, 5, 6, 7];
     if !automatic || dice.percent(50) {
         codes.push(3);
@@ -37,58 +36,16 @@ fn some_codes(automatic: bool, dice: &mut Dice) -> Vec<u16> {
     } else {
         dice.pick(&[0, 0, 1, 2])
     };
-    let wide = match dice.percent(25) {
-        true => dice.pick(&[1, 1, 2, 4]),
-        false => 0,
-    };
-    let narrow = codes.len().max(6 + extra as usize);
-    fill_codes(&mut codes, narrow, narrow_code, dice);
-    fill_codes(&mut codes, narrow + wide, wide_code, dice);
-    if dice.percent(60) {
-        shuffle(&mut codes, dice);
-    }
-    codes
-}
-
-/// 33 to 64 codes: all below 256, or some above.
-fn many_codes(dice: &mut Dice) -> Vec<u16> {
-    let mut codes: Vec<u16> = (1..=8).collect();
-    let count = match dice.percent(40) {
-        true => dice.pick(&[33, 64]),
-        false => dice.within(33, 64) as usize,
-    };
-    let wide = dice.pick(&[0, 0, 1, 20]);
-    fill_codes(&mut codes, count - wide, narrow_code, dice);
-    fill_codes(&mut codes, count, wide_code, dice);
-    shuffle(&mut codes, dice);
-    codes
-}
-
-/// Carried codes, none twice, up to `count` codes in all.
-fn fill_codes(codes: &mut Vec<u16>, count: usize, some: fn(&mut Dice) -> u16, dice: &mut Dice) {
-    while codes.len() < count {
-        let code = some(dice);
+    while codes.len() < 6 + extra as usize {
+        let code = dice.within(9, 255) as u8;
         if !codes.contains(&code) {
             codes.push(code);
         }
     }
-}
-
-/// From 9 to 255, its end often.
-fn narrow_code(dice: &mut Dice) -> u16 {
-    match dice.percent(10) {
-        true => 255,
-        false => dice.within(9, 255) as u16,
+    if dice.percent(60) {
+        shuffle(&mut codes, dice);
     }
-}
-
-/// Above 255: its ends and 256 + 1 to 8 often.
-fn wide_code(dice: &mut Dice) -> u16 {
-    match dice.below(4) {
-        0 => dice.pick(&[256, 65535]),
-        1 => 256 + dice.within(1, 8) as u16,
-        _ => dice.within(256, 65535) as u16,
-    }
+    codes
 }
 
 /// The greatest row count of a record with so many channels.
@@ -120,7 +77,7 @@ impl Site {
     }
 }
 
-pub fn content_of(site: &Site, codes: Vec<u16>, items: &[Item], dice: &mut Dice) -> Content {
+pub fn content_of(site: &Site, codes: Vec<u8>, items: &[Item], dice: &mut Dice) -> Content {
     let mut content = Content {
         codes,
         settings: site.settings.to_vec(),
@@ -171,15 +128,9 @@ pub fn until_verdict(car: Vehicle, items: &[Item]) -> Vec<Item> {
 /// A whole driven test as a record's content.
 fn driven_content(dice: &mut Dice) -> Content {
     let site = Site::some(dice);
-    let many = dice.percent(4);
-    let codes = match many {
-        true => many_codes(dice),
-        false => some_codes(site.automatic(), dice),
-    };
+    let codes = some_codes(site.automatic(), dice);
     let most = most_rows(codes.len());
-    let most = if many {
-        dice.within(0, 40) as usize // or the records grow long
-    } else if dice.percent(15) {
+    let most = if dice.percent(15) {
         dice.within(0, most as i64) as usize
     } else {
         most
@@ -198,10 +149,7 @@ pub fn scripted_content(index: usize, dice: &mut Dice) -> Content {
     content_of(&site, codes, &items, dice)
 }
 
-pub const DAMAGES: usize = 21;
-
-/// The damage of a wide form that is not needed.
-pub const NEEDLESS: usize = 20;
+pub const DAMAGES: usize = 20;
 
 /// A record damaged in one of DAMAGES ways.
 pub fn damaged_record(way: usize, dice: &mut Dice) -> Vec<u8> {
@@ -211,7 +159,7 @@ pub fn damaged_record(way: usize, dice: &mut Dice) -> Vec<u8> {
         scripted_content(dice.below(SCRIPTS as u64) as usize, dice)
     };
     match way {
-        0..=6 => damage_bytes(way, &content, dice),
+        0..=6 => damage_bytes(way, content.bytes(), content.codes.len(), dice),
         7..=12 => {
             damage_entry(way, &mut content, dice);
             content.bytes()
@@ -220,20 +168,8 @@ pub fn damaged_record(way: usize, dice: &mut Dice) -> Vec<u8> {
             damage_cells(way, &mut content, dice);
             content.bytes()
         }
-        NEEDLESS => needless_record(dice),
         _ => after_verdict(way, dice).bytes(),
     }
-}
-
-/// A section that is wide without need, half of them with another fault.
-fn needless_record(dice: &mut Dice) -> Vec<u8> {
-    let mut content = short_content(dice);
-    content.codes.retain(|code| *code < 256);
-    content.codes.truncate(32);
-    if dice.percent(50) {
-        damage_entry(dice.within(7, 12) as usize, &mut content, dice);
-    }
-    content.bytes_in(Form::Wide)
 }
 
 /// A small fit record: few rows, few stops.
@@ -245,17 +181,13 @@ pub fn short_content(dice: &mut Dice) -> Content {
     for cause in 1..=dice.below(4) as u8 {
         script.stop(cause);
     }
-    let codes = match dice.percent(10) {
-        true => many_codes(dice),
-        false => some_codes(site.automatic(), dice),
-    };
+    let codes = some_codes(site.automatic(), dice);
     content_of(&site, codes, &script.items, dice)
 }
 
 /// Truncation, counts that are not allowed, bytes left, any byte changed.
-fn damage_bytes(way: usize, content: &Content, dice: &mut Dice) -> Vec<u8> {
-    let mut bytes = content.bytes();
-    let at = content.channels_end();
+fn damage_bytes(way: usize, mut bytes: Vec<u8>, channels: usize, dice: &mut Dice) -> Vec<u8> {
+    let at = 1 + channels;
     match way {
         0 => {
             let length = if dice.percent(50) {
@@ -265,15 +197,11 @@ fn damage_bytes(way: usize, content: &Content, dice: &mut Dice) -> Vec<u8> {
             };
             bytes.truncate(dice.below(length as u64) as usize);
         }
-        1 if content.form() == Form::Wide && dice.percent(70) => {
-            let count: u16 = dice.pick(&[0, 65, 255, 256, 65535]);
-            bytes[1..3].copy_from_slice(&count.to_le_bytes());
-        }
         1 => bytes[0] = dice.pick(&[0, 33, 255]),
         2 => bytes[at] = dice.pick(&[0, 6, 8, 255]),
         3 => bytes[at + 15] = dice.pick(&[0, 28, 30, 255]),
         4 => {
-            let rows = dice.pick(&[1501, 65535, most_rows(content.codes.len()) as u16 + 1]);
+            let rows = dice.pick(&[1501, 65535, most_rows(channels) as u16 + 1]);
             bytes[at + 74..at + 76].copy_from_slice(&rows.to_le_bytes());
         }
         5 => (0..dice.within(1, 5)).for_each(|i| bytes.push(i as u8)),
@@ -293,10 +221,7 @@ pub fn damage_entry(way: usize, content: &mut Content, dice: &mut Dice) {
         8 => content.codes[column] = content.codes[(column + 1) % content.codes.len()],
         9 => {
             let gone = dice.pick(&[1, 2, 4, 5, 6, 7]);
-            let other = match dice.percent(30) {
-                true => Some(256 + gone),
-                false => (200..=255).find(|code| !content.codes.contains(code)),
-            };
+            let other = (200..=255).find(|code| !content.codes.contains(code));
             for code in &mut content.codes {
                 if *code == gone {
                     *code = other.unwrap_or(200);
@@ -356,8 +281,7 @@ fn damage_cells(way: usize, content: &mut Content, dice: &mut Dice) {
     for _ in 0..way - 12 {
         let column = dice.below(channels as u64) as usize;
         if content.codes[column] <= 8 {
-            let code = content.codes[column] as u8;
-            let bits = unfit_bits(code, content.settings[3] == 2, dice);
+            let bits = unfit_bits(content.codes[column], content.settings[3] == 2, dice);
             content.cells[row * channels + column] = bits;
         }
     }
@@ -394,23 +318,18 @@ fn after_verdict(way: usize, dice: &mut Dice) -> Content {
     content_of(&site, codes, &items, dice)
 }
 
-/// How many records reach everything: the named ones, those about the wide form and those about dips.
-pub fn reaching_records() -> usize {
-    RECORDS.len() + wide_records().len() + PAST_DIPS - FIRST_DIP
-}
+/// How many records reach everything: the named ones and those about dips.
+pub const REACHING_RECORDS: usize = RECORDS.len() + PAST_DIPS - FIRST_DIP;
 
-/// The named records first, then those about the wide form, then the scripted tests, those about
-/// dips before the others.
+/// The named records first, then the scripted tests, those about dips before the others.
 pub fn make_records(seed: u64, count: usize) -> Vec<u8> {
     let mut dice = Dice(seed ^ 0x7265_636F);
     let mut out = Vec::new();
-    let named = RECORDS.iter().filter_map(|name| small_record(name));
-    let fixed: Vec<Vec<u8>> = named.chain(wide_records()).collect();
     for i in 0..count {
         let record = match i {
-            _ if i < fixed.len() => fixed[i].clone(),
-            _ if i < fixed.len() + SCRIPTS => {
-                scripted_content(FIRST_DIP + i - fixed.len(), &mut dice).bytes()
+            _ if i < RECORDS.len() => small_record(RECORDS[i]).unwrap_or_default(),
+            _ if i < RECORDS.len() + SCRIPTS => {
+                scripted_content(FIRST_DIP + i - RECORDS.len(), &mut dice).bytes()
             }
             _ if i % 4 == 3 => damaged_record(i / 4 % DAMAGES, &mut dice),
             _ if i % 16 == 2 => scripted_content(dice.below(1000) as usize, &mut dice).bytes(),

@@ -3,7 +3,6 @@
 use crate::dice::Dice;
 use crate::make_record_vectors::sized_content;
 use crate::make_records::{content_of, Site};
-use crate::named_wide::wide_record;
 use crate::numbers::{MISSING, OVER};
 use crate::record::Content;
 use crate::script::Script;
@@ -23,7 +22,7 @@ pub fn listing(rows: usize) -> Content {
 }
 
 /// Small records by name: each ends in another way, or has its engine speed or its dip for another reason.
-pub const RECORDS: [&str; 51] = [
+pub const RECORDS: [&str; 43] = [
     "pass_rising",
     "pass_out",
     "pass_ninety",
@@ -67,14 +66,6 @@ pub const RECORDS: [&str; 51] = [
     "dip_eleventh",
     "dip_forgotten",
     "slow_fall",
-    "wide_pass",
-    "wide_near",
-    "wide_rows",
-    "refused_1_wide",
-    "refused_2_wide",
-    "refused_3_wide",
-    "refused_8_wide",
-    "refused_19",
 ];
 
 /// The records of the engine speed that have an automatic gearbox.
@@ -88,9 +79,6 @@ const AUTOMATIC: [&str; 4] = [
 /// A record of RECORDS.
 pub fn small_record(name: &str) -> Option<Vec<u8>> {
     let place = RECORDS.iter().position(|known| *known == name)?;
-    if name.contains("wide") || name == "refused_19" {
-        return wide_record(name);
-    }
     let moped = name.contains("two") || name.ends_with("inconclusive");
     let engine = name.starts_with("engine_");
     let layout = match engine {
@@ -106,7 +94,12 @@ pub fn small_record(name: &str) -> Option<Vec<u8>> {
         },
         saturation: listing(0).saturation,
     };
-    let codes = small_codes(moped, layout);
+    let codes = match (moped, layout) {
+        (true, _) => vec![7, 1, 2, 4, 6, 5],
+        (_, 0) => vec![1, 2, 4, 5, 6, 7],
+        (_, 1) => vec![7, 6, 5, 4, 3, 2, 1],
+        _ => vec![9, 8, 1, 3, 2, 5, 4, 7, 6, 200],
+    };
     let mut script = Script::new(site.car(), place as u64);
     match name.strip_prefix("refused_") {
         Some(_) => small_refused(name, &mut script),
@@ -122,15 +115,6 @@ pub fn small_record(name: &str) -> Option<Vec<u8>> {
         _ => {}
     }
     Some(bytes)
-}
-
-fn small_codes(moped: bool, layout: usize) -> Vec<u16> {
-    match (moped, layout) {
-        (true, _) => vec![7, 1, 2, 4, 6, 5],
-        (_, 0) => vec![1, 2, 4, 5, 6, 7],
-        (_, 1) => vec![7, 6, 5, 4, 3, 2, 1],
-        _ => vec![9, 8, 1, 3, 2, 5, 4, 7, 6, 200],
-    }
 }
 
 /// The tests that are judged to their end or left open.
@@ -201,7 +185,7 @@ fn small_refused(name: &str, s: &mut Script) {
 /// What makes a record unfit, by its name.
 fn damage_small(name: &str, content: &mut Content) {
     let channels = content.codes.len();
-    let column = |code: u16| content.codes.iter().position(|c| *c == code);
+    let column = |code: u8| content.codes.iter().position(|c| *c == code);
     let (load, engine) = (column(2), column(3));
     match name {
         "refused_2" => content.saturation.truncate(28),
@@ -244,8 +228,8 @@ pub fn sample(name: &str) -> Option<Vec<u8>> {
             return Some(content.bytes());
         }
         // The longest record, and one byte more.
-        "too_long" => return Some([sized_content(60, 250, 255).bytes(), vec![0]].concat()),
-        "pass" | "unfit" | "wide" => script.pass(),
+        "too_long" => return Some([sized_content(30, 500, 255).bytes(), vec![0]].concat()),
+        "pass" | "unfit" => script.pass(),
         // As "pass", but for second 6: the pass comes at t = 90.
         "dip" => {
             script.settle();
@@ -292,10 +276,7 @@ pub fn sample(name: &str) -> Option<Vec<u8>> {
         _ => return None,
     }
     let mut dice = Dice(7);
-    let mut codes = vec![1, 2, 3, 4, 5, 6, 7, 8];
-    if name == "wide" {
-        codes.push(1025); // an add-on's channel
-    }
+    let codes = vec![1, 2, 3, 4, 5, 6, 7, 8];
     let mut content = content_of(&site, codes, &script.items, &mut dice);
     if name == "unfit" {
         content.cells[3 * 8 + 7] = (-1.0f32).to_bits(); // O2 of row 4, which no step uses

@@ -17,10 +17,6 @@ use crate::asserts_record::{
 use crate::asserts_test::{
     check_ended, check_growing, check_kept, check_measuring, check_settling, check_voids, short,
 };
-use crate::asserts_wide::{
-    check_longest, check_needless, check_whole_codes, check_wide_items, check_wide_places,
-    check_wide_round_trips, check_wide_sections, check_wide_writer,
-};
 use crate::bench::Event;
 use crate::journal::WRONG;
 use crate::make_events::{least, make_events};
@@ -206,14 +202,6 @@ pub fn selftest() -> bool {
     check_writer(&mut checks);
     check_round_trips(&mut checks);
     check_line(&mut checks);
-    check_wide_sections(&mut checks);
-    check_wide_places(&mut checks);
-    check_needless(&mut checks);
-    check_whole_codes(&mut checks);
-    check_wide_writer(&mut checks);
-    check_wide_round_trips(&mut checks);
-    check_longest(&mut checks);
-    check_wide_items(&mut checks);
     check_tries(&mut checks);
     check_locks(&mut checks);
     check_bench(&mut checks);

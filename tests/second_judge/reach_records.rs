@@ -6,8 +6,7 @@ use crate::numbers::Second;
 use crate::reach::{names, texts, Reach};
 use crate::reach_dips::{dips_in_records, Runs};
 use crate::reach_engines::{Engines, ON_THE_SHEET};
-use crate::reach_wide::{in_records, required_of_records};
-use crate::record::{read_count, read_record, u16_at, Record};
+use crate::record::{read_record, u16_at, Record};
 use crate::rejudging::rejudge;
 use crate::running::{Running, Step};
 use crate::test::{Judged, Word};
@@ -57,10 +56,8 @@ fn open_without_window(steps: &[(Option<Second>, Step)]) -> Option<String> {
 
 /// The bytes after the last stop's entry, of a record whose counts are allowed.
 fn bytes_left(bytes: &[u8]) -> bool {
-    let Ok((form, channels)) = read_count(bytes) else {
-        return false;
-    };
-    let rows_at = form.code_at(channels) + 76;
+    let channels = bytes[0] as usize;
+    let rows_at = channels + 77;
     let stops_at = rows_at + 4 * channels * u16_at(bytes, rows_at - 2) as usize;
     stops_at + 1 + 3 * (bytes[stops_at] as usize) < bytes.len()
 }
@@ -76,15 +73,10 @@ pub fn reach_records(data: &[u8]) -> Reach {
     required.extend(dips_in_records());
     required.extend(names("void ", 1..=9));
     required.extend(names("refused ", 1..=9));
-    required.extend(texts(&["refused 19"]));
-    required.extend(required_of_records());
     let mut reach = Reach::new(required);
     let mut items = Items { data };
     while let Some(record) = items.record() {
-        let answer = rejudge(record);
-        let seen = in_records(record, answer.as_ref().err().copied());
-        seen.into_iter().for_each(|name| reach.count(name));
-        match answer {
+        match rejudge(record) {
             Err(refusal) => {
                 reach.count(format!("refused {}", refusal.number));
                 if refusal.number == 6 && bytes_left(record) {

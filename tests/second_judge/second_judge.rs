@@ -39,9 +39,7 @@ mod make_record_vectors;
 mod make_records;
 mod make_runs;
 mod make_tests;
-mod make_wide;
 mod named_records;
-mod named_wide;
 mod script;
 mod scripted_dips;
 mod scripted_tests;
@@ -52,11 +50,9 @@ mod reach_dips;
 mod reach_engines;
 mod reach_events;
 mod reach_prepares;
-mod reach_record_vectors;
 mod reach_records;
 mod reach_runs;
 mod reach_tests;
-mod reach_wide;
 
 // Own asserts.
 mod asserts_bench;
@@ -67,7 +63,6 @@ mod asserts_numbers;
 mod asserts_prepare;
 mod asserts_record;
 mod asserts_test;
-mod asserts_wide;
 mod own_asserts;
 
 use crate::make_corrections::make_corrections;
@@ -83,7 +78,6 @@ use crate::modes::{
 use crate::named_records::{sample, RECORDS};
 use crate::own_asserts::selftest;
 use crate::reach_events::reach_events;
-use crate::reach_record_vectors::reach_record_vectors;
 use crate::reach_records::reach_records;
 use crate::reach_tests::reach_tests;
 use crate::rejudging::rejudge_line;
@@ -179,7 +173,6 @@ fn run(words: &[&str], out: &mut impl FnMut(&str)) -> Ended {
         ["reach", "judge-many", file] => return Ok(reach_records(&file_bytes(file)?).report(out)),
         ["reach", "events"] => return Ok(reach_events(&stdin_bytes()?).report(out)),
         ["reach", "tests"] => return Ok(reach_tests(&stdin_bytes()?).report(out)),
-        ["reach", "record_vectors"] => return Ok(reach_record_vectors(&stdin_bytes()?).report(out)),
         ["selftest"] => return Ok(selftest()),
         ["least"] => least()
             .iter()

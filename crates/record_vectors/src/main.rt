@@ -2,7 +2,7 @@
 // An item is a topic byte and, little-endian:
 //   1, read:  a record: its length in 4 bytes, then its bytes.
 //   2, write: the output's length in 4 bytes, its fill byte, then the six runs of a content, each after its count (the cells'
-//             in 4 bytes, the others' in 2): cells of 4 bytes, causes of 1, all others of 2.
+//             in 4 bytes, the others' in 2).
 //   3, line:  the output's length in 4 bytes, its fill byte, then a record as in 1.
 // A length or a count beyond the space of the program is cut to it. A record that is read is written again from its accessors,
 // and what is written is read again: the last word of such a line tells whether the same came back. The stored output is

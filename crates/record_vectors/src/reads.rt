@@ -4,7 +4,7 @@ use crate::{content, input, output};
 use record::{Read, Shape, Written};
 
 fn write_again(s: &[u8], shape: Shape, out: &mut [u8]) -> Written {
-    let mut codes = input::half_space();
+    let mut codes = io::buffer();
     let code_count = content::codes(s, shape, &mut codes);
     let mut settings = input::half_space();
     let setting_count = content::settings(s, shape, &mut settings);

@@ -6,17 +6,17 @@ use record::{Read, Shape, Written};
 fn same_heading(
     s: &[u8],
     shape: Shape,
-    codes: &[u16],
+    codes: &[u8],
     settings: &[u16],
     saturation: &[u16],
 ) -> bool {
-    let mut found_codes = input::half_space();
+    let mut found_codes = io::buffer();
     let code_count = content::codes(s, shape, &mut found_codes);
     let mut found_settings = input::half_space();
     let setting_count = content::settings(s, shape, &mut found_settings);
     let mut found_saturation = input::half_space();
     let saturation_count = content::saturation(s, shape, &mut found_saturation);
-    same_halves(&found_codes[..code_count], codes)
+    same_bytes(&found_codes[..code_count], codes)
         & same_halves(&found_settings[..setting_count], settings)
         & same_halves(&found_saturation[..saturation_count], saturation)
 }
@@ -36,7 +36,7 @@ fn same_body(s: &[u8], shape: Shape, cells: &[u32], pasts: &[u16], causes: &[u8]
 // Whether the record s has the content.
 fn has_content(
     s: &[u8],
-    codes: &[u16],
+    codes: &[u8],
     settings: &[u16],
     saturation: &[u16],
     cells: &[u32],
@@ -54,7 +54,7 @@ fn has_content(
 
 fn write(
     out: &mut [u8],
-    codes: &[u16],
+    codes: &[u8],
     settings: &[u16],
     saturation: &[u16],
     cells: &[u32],
@@ -72,8 +72,8 @@ fn write(
 
 // The six runs, one after the other, and then the writer.
 fn write_next(out: &mut [u8]) {
-    let mut codes = input::half_space();
-    let code_count = input::next_halves(&mut codes);
+    let mut codes = io::buffer();
+    let code_count = input::next_run(2, &mut codes);
     let mut settings = input::half_space();
     let setting_count = input::next_halves(&mut settings);
     let mut saturation = input::half_space();

@@ -1,5 +1,2 @@
 pub mod Picked
 pub mod Exactly
-pub mod Checks
-pub mod Scans
-pub mod Others
