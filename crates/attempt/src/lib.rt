@@ -1,6 +1,8 @@
 // The counts of one attempt: what a second is before its stage is looked at, what it adds to the counts of settling and of
 // measuring, and the ending rule. Document 01, "One test, second by second", steps 2 to 4.
 // Exported: the counts and what grows them. Every function is total; loaded_test puts them together.
+#![tactic(auto)]
+
 ghost use Rattle.std.specs.Prelude.{◌≡◌};
 ghost use Rattle.attempt.specs.Counting.{bump, in_row, in_all};
 ghost use Rattle.attempt.specs.Screening.{waits, diluted, flaw_of, screened};
@@ -32,7 +34,7 @@ use reading::Second;
 use vehicle::{Mode, Vehicle};
 
 // Settling: document 01's n, g, u, w.
-#[derive(Drop)]
+#[derive(Clone, Copy)]
 pub struct SettlingCounts {
     pub seconds: u8,
     pub ready: u8,
@@ -41,7 +43,7 @@ pub struct SettlingCounts {
 }
 
 // Valid windows that pass and that fail.
-#[derive(Drop)]
+#[derive(Clone, Copy)]
 pub struct WindowCounts {
     pub passing: u8,
     pub failing: u8,
@@ -49,7 +51,7 @@ pub struct WindowCounts {
 
 // Measuring: document 01's t, u, w, the counts of windows, the speed of measured second 1, whether the speeds up to second 10 have held, and
 // whether there is a last valid window.
-#[derive(Drop)]
+#[derive(Clone, Copy)]
 pub struct MeasuringCounts {
     pub seconds: u8,
     pub row: u8,
@@ -75,7 +77,7 @@ pub const NO_MEASURING: MeasuringCounts = MeasuringCounts {
 };
 
 // What is looked at before the stage: the test waits for its first counted second, the second is void, or neither.
-#[derive(Drop)]
+#[derive(Clone, Copy)]
 pub enum Screen {
     Waits,
     Flawed(u8),
@@ -83,7 +85,7 @@ pub enum Screen {
 }
 
 // What the ending rule says.
-#[derive(Drop)]
+#[derive(Clone, Copy)]
 pub enum Ending {
     NotYet,
     Passes,

@@ -1,6 +1,8 @@
 // Document 01, "Locks of the bench", and document 02, A.2 and A.5: one bench, which takes the thirteen kinds of event in any order.
 // Exported: open, which gives a fresh bench or refuses V or U, and step, which takes one event and answers it; Event and what it carries.
 // specs/History.antt, Causes.antt and Telling.antt are the plain history; specs/Demand.antt is demand 3, which open carries.
+#![tactic(auto)]
+
 ghost use Rattle.std.specs.Prelude.{◌≡◌};
 ghost use Rattle.bench.specs.Causes.{inside_test, outside_test};
 ghost use Rattle.bench.specs.Stepping.{fresh_bench, opened_of, step};
@@ -18,7 +20,7 @@ pub use prepare::{Residue, ZeroCheck};
 use refusal::Refusal;
 
 // The answer to an event: accepted, accepted with a verdict, or refused.
-#[derive(Drop)]
+#[derive(Clone, Copy)]
 pub enum Answer {
     Accepted,
     Judged(Verdict),
@@ -26,7 +28,7 @@ pub enum Answer {
 }
 
 // What a bench keeps beside its test: document 01's V in seconds and U, the last clock, and what the locks are read from.
-#[derive(Drop)]
+#[derive(Clone, Copy)]
 pub struct Desk {
     validity: u32,
     limit: u16,
@@ -35,33 +37,33 @@ pub struct Desk {
 }
 
 // The state of one bench. test is the one that runs, where one does.
-#[derive(Drop)]
+#[derive(Clone, Copy)]
 pub struct Bench {
     desk: Desk,
     test: Test,
 }
 
 // A bench after an event.
-#[derive(Drop)]
+#[derive(Clone, Copy)]
 pub struct Handled {
     pub answer: Answer,
     pub bench: Bench,
 }
 
-#[derive(Drop)]
+#[derive(Clone, Copy)]
 pub enum Opening {
     Opens,
     Refused(Refusal),
 }
 
-#[derive(Drop)]
+#[derive(Clone, Copy)]
 pub struct Opened {
     pub answer: Opening,
     pub bench: Bench,
 }
 
 // Whether a row of the table refuses a start.
-#[derive(Drop)]
+#[derive(Clone, Copy)]
 pub(crate) enum Ruling {
     Taken,
     Refused(Refusal),

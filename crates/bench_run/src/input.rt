@@ -4,7 +4,7 @@ use reading::{Reading, Readings};
 use vehicle::Settings;
 
 // The next event, or none at the end of the input or at a kind that is none.
-#[derive(Drop)]
+#[derive(Clone, Copy)]
 pub(crate) enum Found {
     Event(Event),
     End,

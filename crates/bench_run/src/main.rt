@@ -1,5 +1,7 @@
 // Runs one bench on a list of events from standard input, and prints an answer a line.
 // The input: V (4 bytes), U (2 bytes), then each event: kind (1 byte), clock (4 bytes) and what its kind carries, little-endian.
+#![tactic(auto)]
+
 mod input;
 mod output;
 

@@ -1,18 +1,20 @@
 // Document 02, A.2, and 004, annex E1.1: a coast-down run of the rollers, what is fit in it, and when it passes.
 // Exported: Run with its SpeedRange, inertia_fit, power_fit and run_passed.
+#![tactic(auto)]
+
 ghost use Rattle.std.specs.Prelude.{◌≡◌};
 ghost use Rattle.coast_down.specs.Passing.{inertia_fit, power_fit, whole_nominal, run_passed};
 ghost use Rattle.coast_down.specs.Claims.{InertiaExactly, PowerExactly, RunClaims};
 
 // Which run: the faster, from 48 to 32 km/h, or the slower, from 33 to 17.
-#[derive(Drop)]
+#[derive(Clone, Copy)]
 pub enum SpeedRange {
     Faster,
     Slower,
 }
 
 // A run: inertia in 0.1 kg, the sum of set and friction power in 0.01 kW, and the measured time.
-#[derive(Drop)]
+#[derive(Clone, Copy)]
 pub struct Run {
     pub inertia: u16,
     pub power: u16,

@@ -2,6 +2,8 @@
 // numbers. Exports: dilution_sum, dcf, Factor, humidity_factor, the range of a saturation pressure, and half_up, the rounding
 // of every quotient that is rounded to the unit.
 
+#![tactic(auto)]
+
 ghost use Rattle.std.specs.Prelude.{◌≡◌};
 ghost use Rattle.correction.specs.Rounding.{half_up, HalfUpExact};
 ghost use Rattle.correction.specs.Dilution.{dilution_sum, dilution_divisor, dcf_of};
@@ -16,7 +18,7 @@ ghost use Rattle.correction.specs.Claims.{DilutionClaims, HumidityClaims};
 use reading::{Hundredths, Tenths};
 
 // k_H in millionths, or none where a setting or p is outside its range.
-#[derive(Drop)]
+#[derive(Clone, Copy)]
 pub enum Factor {
     Millionths(u32),
     Unfit,

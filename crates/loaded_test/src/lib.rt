@@ -2,6 +2,8 @@
 // Exported: begin, second and stop, which tell what happened; what is printed of a test; the types of state and answers.
 // Inside: settling.rt (with rest) and measuring.rt have a second at a stage each, voids.rt what follows a void, steps.rt what they share.
 
+#![tactic(auto)]
+
 ghost use Rattle.std.specs.Prelude.{◌≡◌};
 ghost use Rattle.loaded_test.specs.State.{test_of, began, none_running};
 ghost use Rattle.loaded_test.specs.Steps.{start_of, begin, second, stop};
@@ -24,7 +26,7 @@ use refusal::Refusal;
 use vehicle::{Checked, Mode, Settings, Vehicle};
 use window::Measured;
 
-#[derive(Drop)]
+#[derive(Clone, Copy)]
 pub enum Word {
     Pass,
     Fail,
@@ -32,7 +34,7 @@ pub enum Word {
 }
 
 // A verdict with t, passing and failing of the attempt that it ends.
-#[derive(Drop)]
+#[derive(Clone, Copy)]
 pub struct Verdict {
     pub word: Word,
     pub t: u8,
@@ -41,7 +43,7 @@ pub struct Verdict {
 }
 
 // What a second or a stop did: measured with its t, void with its number.
-#[derive(Drop)]
+#[derive(Clone, Copy)]
 pub enum Did {
     Nothing,
     MeasuringBegan,
@@ -51,7 +53,7 @@ pub enum Did {
 }
 
 // What comes next.
-#[derive(Drop)]
+#[derive(Clone, Copy)]
 pub enum Next {
     GoesOn,
     Rests,
@@ -61,14 +63,14 @@ pub enum Next {
 }
 
 // A refused second or stop leaves the test as it was.
-#[derive(Drop)]
+#[derive(Clone, Copy)]
 pub enum Answer {
     Told(Did, Next),
     Refused(Refusal),
 }
 
 // NotBegun stands where there is no test.
-#[derive(Drop)]
+#[derive(Clone, Copy)]
 pub enum Stage {
     NotBegun,
     Settling,
@@ -78,14 +80,14 @@ pub enum Stage {
 }
 
 // Document 01's r and q.
-#[derive(Drop)]
+#[derive(Clone, Copy)]
 pub struct VoidCounts {
     pub voids: u8,
     pub inconclusive: u8,
 }
 
 // The state of a test without its vehicle and its seconds. counted is document 01's c, resting the rest count.
-#[derive(Drop)]
+#[derive(Clone, Copy)]
 pub struct Progress {
     pub mode: Mode,
     pub stage: Stage,
@@ -98,7 +100,7 @@ pub struct Progress {
 
 // The last ten measured seconds and the last valid window, newest first. The first t of last are of this run, all ten from t = 10
 // on; window is the last valid one where kept tells that there is one.
-#[derive(Drop)]
+#[derive(Clone, Copy)]
 pub struct Test {
     vehicle: Vehicle,
     progress: Progress,
@@ -107,27 +109,27 @@ pub struct Test {
 }
 
 // A test after a second or a stop.
-#[derive(Drop)]
+#[derive(Clone, Copy)]
 pub struct Stepped {
     pub answer: Answer,
     pub test: Test,
 }
 
 // Where a start is refused there is no test: what stands for it takes no second and no stop.
-#[derive(Drop)]
+#[derive(Clone, Copy)]
 pub enum Start {
     Begins,
     Refused(Refusal),
 }
 
-#[derive(Drop)]
+#[derive(Clone, Copy)]
 pub struct Begun {
     pub answer: Start,
     pub test: Test,
 }
 
 // What one second or stop makes of the progress.
-#[derive(Drop)]
+#[derive(Clone, Copy)]
 pub(crate) struct Turn {
     did: Did,
     next: Next,

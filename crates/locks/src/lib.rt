@@ -2,6 +2,8 @@
 // Exported: Event, with its kind, its clocks and what it carries (Contents); Locks, what the eight locks are read from, after each
 // accepted event and each verdict; lock_number, the first lock that stands. specs/Locks.antt reads the same locks from the list of
 // accepted events, and specs/Plain.antt says in plain words when each stands.
+#![tactic(auto)]
+
 ghost use Rattle.std.specs.Prelude.{◌≡◌};
 ghost use Rattle.locks.specs.Claims.{LockClaims};
 ghost use Rattle.locks.specs.State.{fresh_locks, locks_after, verdict_counted, lock_number};
@@ -25,14 +27,14 @@ use reading::Readings;
 use vehicle::Settings;
 
 // What a calibration came to.
-#[derive(Drop)]
+#[derive(Clone, Copy)]
 pub enum Calibration {
     Passed,
     Failed,
 }
 
 // What a try at the password came to.
-#[derive(Drop)]
+#[derive(Clone, Copy)]
 pub enum Try {
     Good { expiry: u32 },
     Wrong,
@@ -40,7 +42,7 @@ pub enum Try {
 
 // An event of the bench, each with its clock in seconds, in the order of document 01's kinds 1 to 11 and document 02's kinds 12
 // and 13.
-#[derive(Drop)]
+#[derive(Clone, Copy)]
 pub enum Event {
     PowerOn {
         clock: u32,
@@ -93,7 +95,7 @@ pub enum Event {
 }
 
 // What an event that is no start, second or stop carries beside its clock.
-#[derive(Drop)]
+#[derive(Clone, Copy)]
 pub enum Service {
     Nothing,
     NewClock(u32),
@@ -104,7 +106,7 @@ pub enum Service {
 }
 
 // What an event carries beside its clock.
-#[derive(Drop)]
+#[derive(Clone, Copy)]
 pub enum Carried {
     Service(Service),
     Start(Settings, u16),
@@ -113,7 +115,7 @@ pub enum Carried {
 }
 
 // An event by document 01's number of its kind, its clock and what it carries.
-#[derive(Drop)]
+#[derive(Clone, Copy)]
 pub struct Contents {
     pub kind: u8,
     pub clock: u32,
@@ -121,28 +123,28 @@ pub struct Contents {
 }
 
 // The calibration that stands: none that passed, or the clock of one that did.
-#[derive(Drop)]
+#[derive(Clone, Copy)]
 pub enum Calibrated {
     No,
     At(u32),
 }
 
 // The sign-in that stands: none, or one with its expiry.
-#[derive(Drop)]
+#[derive(Clone, Copy)]
 pub enum SignIn {
     Out,
     Until(u32),
 }
 
 // Whether the latest coast-down run of each speed passed.
-#[derive(Drop)]
+#[derive(Clone, Copy)]
 pub struct Rollers {
     faster: bool,
     slower: bool,
 }
 
 // What power-on and clock setting void.
-#[derive(Drop)]
+#[derive(Clone, Copy)]
 pub struct Session {
     warm: bool,
     calibrated: Calibrated,
@@ -151,14 +153,14 @@ pub struct Session {
 }
 
 // The latest warm-up or second: none, or its clock.
-#[derive(Drop)]
+#[derive(Clone, Copy)]
 pub enum Activity {
     Never,
     Last(u32),
 }
 
 // What authority unlock clears: the wrong tries in a row, counted up to four, password lock and authority lock.
-#[derive(Drop)]
+#[derive(Clone, Copy)]
 pub struct Security {
     wrong: u8,
     password: bool,
@@ -166,14 +168,14 @@ pub struct Security {
 }
 
 // The prepare that stands: none, or the clock of one that does.
-#[derive(Drop)]
+#[derive(Clone, Copy)]
 pub enum Prepared {
     Not,
     Since(u32),
 }
 
 // What the locks are read from; unsent counts the verdicts since the last upload.
-#[derive(Drop)]
+#[derive(Clone, Copy)]
 pub struct Locks {
     session: Session,
     active: Activity,
@@ -183,7 +185,7 @@ pub struct Locks {
 }
 
 // Which of the eight locks stand, in their order.
-#[derive(Drop)]
+#[derive(Clone, Copy)]
 pub(crate) struct StandingLocks {
     not_warm: bool,
     inactive: bool,

@@ -1,15 +1,17 @@
 // Document 02, A.5, and 004, A2.3.3: what a prepare carries, when it stands, and what is unfit in it.
 // Exported: ZeroCheck with its Residue, prepare_stands and above_greatest.
+#![tactic(auto)]
+
 ghost use Rattle.std.specs.Prelude.{◌≡◌};
 ghost use Rattle.prepare.specs.Standing.{residue_fit, prepare_stands, above, above_greatest};
 ghost use Rattle.prepare.specs.Claims.{PrepareClaims, BackgroundClaims};
 
 // The HC residue in 10^-6, background less ambient air: the 16 bits of a signed number in two's complement.
-#[derive(Drop)]
+#[derive(Clone, Copy)]
 pub struct Residue(pub u16);
 
 // The background in units, HC 10^-6, CO 0.01 %, NO 10^-6, and the HC residue.
-#[derive(Drop)]
+#[derive(Clone, Copy)]
 pub struct ZeroCheck {
     pub hc: u16,
     pub co: u16,

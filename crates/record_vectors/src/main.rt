@@ -7,6 +7,8 @@
 // A length or a count beyond the space of the program is cut to it. A record that is read is written again from its accessors,
 // and what is written is read again: the last word of such a line tells whether the same came back. The stored output is
 // not the program's own.
+#![tactic(auto)]
+
 mod compare;
 mod content;
 mod input;

@@ -2,7 +2,9 @@
 // No function: the table's rows are the definitions in specs/Table.antt, which every crate's contracts cite, and their numbers
 // the constants here, which every crate's code takes.
 
-#[derive(Drop)]
+#![tactic(auto)]
+
+#[derive(Clone, Copy)]
 pub struct Refusal {
     pub number: u8,
     pub place: usize,

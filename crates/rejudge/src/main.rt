@@ -1,5 +1,7 @@
 // The rejudge program: a record on standard input, one line on standard output.
 // The longest record that is read has 60,873 bytes, so that the first 60,874 of the input decide every answer.
+#![tactic(auto)]
+
 use libc::{STDIN_FILENO, STDOUT_FILENO};
 use record::Written;
 

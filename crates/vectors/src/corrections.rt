@@ -54,14 +54,14 @@ pub(crate) fn mode_of(n: u8) -> Mode {
 }
 
 // What ten seconds come to: the refusal of the first unfit one, or whether one is over range, and the window.
-#[derive(Drop)]
+#[derive(Clone, Copy)]
 enum Seen {
     Fit,
     Over,
     Refused(Refusal),
 }
 
-#[derive(Drop)]
+#[derive(Clone, Copy)]
 struct Taken {
     seen: Seen,
     last: [Measured; 10],

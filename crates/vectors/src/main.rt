@@ -1,5 +1,7 @@
 // Runs outside vectors: items of the proved crates' inputs from standard input, one answer a line on standard output.
 // An item is a topic byte and the topic's fields, little-endian; tests/second_judge/README.md has the layout.
+#![tactic(auto)]
+
 mod corrections;
 mod input;
 mod output;

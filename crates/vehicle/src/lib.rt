@@ -1,6 +1,8 @@
 // The seven settings checked, and what a test needs of a checked vehicle: document 01's "Limits and loads".
 // A `Vehicle` comes only from `checked_of`, or is the blank one; all functions are total for every value that can be passed in.
 
+#![tactic(auto)]
+
 ghost use Rattle.std.specs.Prelude.{◌≡◌, ◌≤◌, ◌<◌};
 ghost use Rattle.vehicle.specs.Settings.{setting_fit, unfit_place, automatic};
 ghost use Rattle.vehicle.specs.Limits.{limit_row, limits_for};
@@ -23,7 +25,7 @@ use reading::Second;
 use refusal::Refusal;
 
 // The settings in document 01's order, places 1 to 7.
-#[derive(Drop)]
+#[derive(Clone, Copy)]
 pub struct Settings {
     pub kind: u16,
     pub year: u16,
@@ -34,14 +36,14 @@ pub struct Settings {
     pub pressure: u16,
 }
 
-#[derive(Drop)]
+#[derive(Clone, Copy)]
 pub enum Mode {
     One,
     Two,
 }
 
 // Limits in units: CO 0.01 %, HC and NO 10^-6.
-#[derive(Drop)]
+#[derive(Clone, Copy)]
 pub struct Limits {
     pub co: u16,
     pub hc: u16,
@@ -49,14 +51,14 @@ pub struct Limits {
 }
 
 // What a mode asks: target speed in 0.1 km/h, set load P in 0.01 kW.
-#[derive(Drop)]
+#[derive(Clone, Copy)]
 pub struct Aim {
     pub speed: u16,
     pub load: u16,
 }
 
 // Checked settings, as the test needs them.
-#[derive(Drop)]
+#[derive(Clone, Copy)]
 pub struct Vehicle {
     automatic: bool,
     limits: Limits,
@@ -69,14 +71,14 @@ pub struct Vehicle {
     saturation: u16,
 }
 
-#[derive(Drop)]
+#[derive(Clone, Copy)]
 pub enum Checked {
     Fit(Vehicle),
     Refused(Refusal),
 }
 
 // A setting's least and greatest value.
-#[derive(Drop)]
+#[derive(Clone, Copy)]
 struct Range {
     low: u16,
     high: u16,

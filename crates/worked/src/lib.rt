@@ -1,5 +1,7 @@
 // Document 01, "Worked by hand", and figures and runs for document 02's A.1 to A.4, computed from the definitions that the other crates' contracts cite.
 // Nothing is computed when the program runs: each function's contract is a claim, so that the claim cannot go without its proof.
+#![tactic(auto)]
+
 ghost use Rattle.worked.specs.Cases.{Worked};
 ghost use Rattle.worked.specs.Runs.{Played};
 
