@@ -1,0 +1,6 @@
+-- `vehicle::aim_for` meets its contract: by what it calls. Assumes nothing.
+use borrow.Author.Rules.{rules}
+use Rattle.vehicle.proofs.aim_for.Goals as goal
+
+pub returns : goal.returns
+returns c = simp (c.target_for.ensures, c.load_for.ensures)
