@@ -1,0 +1,6 @@
+-- `diluted` meets its contract. Assumes nothing.
+use borrow.Author.Rules.{rules}
+use Rattle.attempt.proofs.diluted.Goals as goal
+
+pub returns : goal.returns
+returns c = simp (c.dilution_sum.ensures, c.co2.ensures, c.co.ensures)

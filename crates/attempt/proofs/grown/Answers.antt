@@ -1,0 +1,6 @@
+-- `grown` meets its contract. Assumes nothing.
+use borrow.Author.Rules.{rules}
+use Rattle.attempt.proofs.grown.Goals as goal
+
+pub returns : goal.returns
+returns c = simp c.bump.ensures
