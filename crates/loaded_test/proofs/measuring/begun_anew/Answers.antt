@@ -1,0 +1,7 @@
+-- `measuring::begun_anew` meets its contract. Assumes nothing.
+use mathlib.Core.Path.{◌∙◌}
+use borrow.Author.Rules.{rules}
+use Rattle.loaded_test.proofs.measuring.begun_anew.Goals as goal
+
+pub returns : goal.returns
+returns c = c.stepped.ensures ∙ simp (c.step_five.ensures, c.restarted-none.ensures.0)

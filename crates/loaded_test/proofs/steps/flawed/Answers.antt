@@ -1,0 +1,6 @@
+-- `steps::flawed` meets its contract. Assumes nothing.
+use borrow.Author.Rules.{rules}
+use Rattle.loaded_test.proofs.steps.flawed.Goals as goal
+
+pub returns : goal.returns
+returns c = cc

@@ -1,0 +1,6 @@
+-- `voids::rests` meets its contract. Assumes nothing.
+use borrow.Author.Rules.{rules}
+use Rattle.loaded_test.proofs.voids.rests.Goals as goal
+
+pub returns : goal.returns
+returns c = simp c.emptied.ensures
