@@ -59,6 +59,11 @@ unfolding latest_of or_else pick
 since_verdict a l true h = refl
 since_verdict a l false h = rw h
 
+-- The gearbox after an event that is no start.
+same_gearbox : (a : Accepted) (l : List Accepted) → start_in a.event ≡ none → automatic_in (a ∷ l) ≡ automatic_in l
+unfolding latest_of or_else
+same_gearbox a l h = rw h
+
 module _ (l : List Accepted) (last : ℕ) where
   abbrev at : Option Test → History
   at o = record { events = l; last = last; test = o }
@@ -81,7 +86,7 @@ module _ (l : List Accepted) (last : ℕ) where
       (λ o. (step_taken o (input_of (automatic_in l) e)).test ≡ test_in (accepted e (step_taken o (input_of (automatic_in l) e)).verdict ∷ l))
       (sym h)
       (stepped_test x i (inputs_since l) ∙
-      sym (rw (one, nine, since_verdict (accepted e v) l (brought v) other, other)))
+      sym (rw (same_gearbox (accepted e v) l other, one, nine, since_verdict (accepted e v) l (brought v) other)))
     where
       x : Option Starting
       x = latest_of start_in (since ends_test l)
@@ -106,7 +111,7 @@ module _ (l : List Accepted) (last : ℕ) where
   unfolding left_by test_in since inputs_of with_input latest_of or_else brought replayed_from pick
   served_left o e s h =
       go (eqb (kind_of e) 1) ∙
-      sym (rw (s.not_start, since_verdict (accepted e none) l (eqb (kind_of e) 1 || false) other, other, ap (input_with (automatic_in l)) s.carries))
+      sym (rw (same_gearbox (accepted e none) l other, s.not_start, since_verdict (accepted e none) l (eqb (kind_of e) 1 || false) other, ap (input_with (automatic_in l)) s.carries))
     where
       other : start_in e ≡ none
       other = ap start_with s.carries

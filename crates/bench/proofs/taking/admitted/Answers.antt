@@ -1,0 +1,6 @@
+use borrow.Author.Rules.{rules}
+use Rattle.bench.proofs.taking.admitted.Goals as goal
+
+-- src/taking.rt:136:1
+pub returns : goal.returns
+returns c = simp c.with_test.ensures

@@ -1,0 +1,6 @@
+use borrow.Author.Rules.{rules}
+use Rattle.bench.proofs.taking.gone_on.Goals as goal
+
+-- src/taking.rt:168:1
+pub returns : goal.returns
+returns c = simp c.with_test.ensures

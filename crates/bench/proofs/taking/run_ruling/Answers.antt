@@ -1,0 +1,7 @@
+use mathlib.Core.Path.{◌∙◌}
+use borrow.Author.Rules.{rules}
+use Rattle.bench.proofs.taking.run_ruling.Goals as goal
+
+-- src/taking.rt:142:1
+pub returns : goal.returns
+returns c = c.first_refusal.ensures ∙ simp (c.inertia_ruling-inertia.ensures, c.power_ruling-power.ensures)

@@ -1,0 +1,6 @@
+use borrow.Author.Rules.{rules}
+use Rattle.bench.proofs.taking.with_test.Goals as goal
+
+-- src/taking.rt:64:1
+pub returns : goal.returns
+returns c = simp (c.desk_after.ensures, c.locks_after.ensures)

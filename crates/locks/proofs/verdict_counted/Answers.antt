@@ -1,0 +1,6 @@
+-- `locks::verdict_counted` meets its contract. Assumes nothing.
+use borrow.Author.Rules.{rules}
+use Rattle.locks.proofs.verdict_counted.Goals as goal
+
+pub returns : goal.returns
+returns c = simp c.one_more.ensures
