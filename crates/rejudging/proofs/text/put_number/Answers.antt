@@ -10,7 +10,7 @@ pub put_decimal-requires : goal.put_decimal-requires
 put_decimal-requires c = simp length-set (omega arith)
 
 pub shape_of-out : goal.shape_of-out
-shape_of-out c = c.put_decimal.auto.0 ∙ simp length-set
+shape_of-out c = c.put_decimal.auto.out ∙ simp length-set
 
 pub returns : goal.returns
 returns c = number_stored _ _ _ _ _ c.put_decimal.ensures

@@ -7,19 +7,19 @@ use borrow.Author.Rules.{rules}
 use Rattle.rejudging.proofs.text.put_sheet.Goals as goal
 
 pub put_number-e-requires : goal.put_number-e-requires
-put_number-e-requires c = omega (arith, c.put_word-a.auto.0, c.put_number-b.auto.0, c.put_number-c.auto.0, c.put_number-d.auto.0, c.put_word-a.ensures.1, c.put_number-b.ensures.1, c.put_number-c.ensures.1, c.put_number-d.ensures.1, c.requires)
+put_number-e-requires c = omega (arith, c.put_word-a.auto.out, c.put_number-b.auto.out, c.put_number-c.auto.out, c.put_number-d.auto.out, c.put_word-a.ensures.1, c.put_number-b.ensures.1, c.put_number-c.ensures.1, c.put_number-d.ensures.1, c.requires)
 
 pub put_window-f-requires : goal.put_window-f-requires
-put_window-f-requires c = omega (arith, c.put_word-a.auto.0, c.put_number-b.auto.0, c.put_number-c.auto.0, c.put_number-d.auto.0, c.put_number-e.auto.0, c.put_word-a.ensures.1, c.put_number-b.ensures.1, c.put_number-c.ensures.1, c.put_number-d.ensures.1, c.put_number-e.ensures.1, c.requires)
+put_window-f-requires c = omega (arith, c.put_word-a.auto.out, c.put_number-b.auto.out, c.put_number-c.auto.out, c.put_number-d.auto.out, c.put_number-e.auto.out, c.put_word-a.ensures.1, c.put_number-b.ensures.1, c.put_number-c.ensures.1, c.put_number-d.ensures.1, c.put_number-e.ensures.1, c.requires)
 
 pub put_engine-g-requires : goal.put_engine-g-requires
-put_engine-g-requires c = omega (arith, c.put_word-a.auto.0, c.put_number-b.auto.0, c.put_number-c.auto.0, c.put_number-d.auto.0, c.put_number-e.auto.0, c.put_window-f.auto.0, c.put_word-a.ensures.1, c.put_number-b.ensures.1, c.put_number-c.ensures.1, c.put_number-d.ensures.1, c.put_number-e.ensures.1, c.put_window-f.ensures.1, c.requires)
+put_engine-g-requires c = omega (arith, c.put_word-a.auto.out, c.put_number-b.auto.out, c.put_number-c.auto.out, c.put_number-d.auto.out, c.put_number-e.auto.out, c.put_window-f.auto.out, c.put_word-a.ensures.1, c.put_number-b.ensures.1, c.put_number-c.ensures.1, c.put_number-d.ensures.1, c.put_number-e.ensures.1, c.put_window-f.ensures.1, c.requires)
 
 pub put_newline-requires : goal.put_newline-requires
-put_newline-requires c = omega (arith, c.put_word-a.auto.0, c.put_number-b.auto.0, c.put_number-c.auto.0, c.put_number-d.auto.0, c.put_number-e.auto.0, c.put_window-f.auto.0, c.put_engine-g.auto.0, c.put_word-a.ensures.1, c.put_number-b.ensures.1, c.put_number-c.ensures.1, c.put_number-d.ensures.1, c.put_number-e.ensures.1, c.put_window-f.ensures.1, c.put_engine-g.ensures.1, c.requires)
+put_newline-requires c = omega (arith, c.put_word-a.auto.out, c.put_number-b.auto.out, c.put_number-c.auto.out, c.put_number-d.auto.out, c.put_number-e.auto.out, c.put_window-f.auto.out, c.put_engine-g.auto.out, c.put_word-a.ensures.1, c.put_number-b.ensures.1, c.put_number-c.ensures.1, c.put_number-d.ensures.1, c.put_number-e.ensures.1, c.put_window-f.ensures.1, c.put_engine-g.ensures.1, c.requires)
 
 pub shape_of-out : goal.shape_of-out
-shape_of-out c = c.put_newline.auto.0 ∙ c.put_engine-g.auto.0 ∙ c.put_window-f.auto.0 ∙ c.put_number-e.auto.0 ∙ c.put_number-d.auto.0 ∙ c.put_number-c.auto.0 ∙ c.put_number-b.auto.0 ∙ c.put_word-a.auto.0
+shape_of-out c = c.put_newline.auto.out ∙ c.put_engine-g.auto.out ∙ c.put_window-f.auto.out ∙ c.put_number-e.auto.out ∙ c.put_number-d.auto.out ∙ c.put_number-c.auto.out ∙ c.put_number-b.auto.out ∙ c.put_word-a.auto.out
 
 pub returns : goal.returns
 unfolding sheet_text
