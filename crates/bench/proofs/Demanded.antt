@@ -11,7 +11,7 @@ use Rattle.loaded_test.proofs.Passing.{bounded as test-within}
 use Rattle.bench.specs.declared.Answer.TheVariants as answer
 use Rattle.locks.specs.declared.Event.{Event}
 use Rattle.locks.specs.declared.Event.TheVariants.{Start}
-use Rattle.locks.specs.Accepted.{Accepted, accepted, since, latest_of}
+use Rattle.locks.specs.Accepted.{Accepted, since, latest_of}
 use Rattle.locks.specs.Locks.{verdicts_in, unsent_in}
 use Rattle.bench.specs.History.{History, fresh_history, runs}
 use Rattle.bench.specs.Causes.{automatic_of}

@@ -1,8 +1,8 @@
 -- Rest and settling leave all that holds of a test standing. Assumes nothing.
-use Prim.Native.Nat.{ℕ, ◌-◌, ◌≤◌, ◌<◌}
+use Prim.Native.Nat.{ℕ, ◌≤◌, ◌<◌}
 use native.Mathlib.Omega.{arith}
 use mathlib.Core.Bool.{Bool, false, ◌&&◌, true≢false}
-use mathlib.Core.Path.{◌≡◌, refl, sym, ap, subst, subst⁻¹}
+use mathlib.Core.Path.{◌≡◌, refl, sym, ap, subst⁻¹}
 use mathlib.Core.List.{List, [], ◌∷◌}
 use lib.Dec.{leb, ltb, eqb}
 use borrow.Author.Tests.{eqb-false, leb-false}

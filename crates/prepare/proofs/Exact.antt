@@ -1,5 +1,5 @@
 -- The signed number of a residue, and what a prepare's tests say in plain numbers. Assumes nothing.
-use Prim.Native.Nat.{ℕ, ◌+◌, ◌-◌, suc, ◌≤◌, ◌<◌}
+use Prim.Native.Nat.{ℕ, ◌-◌, suc, ◌≤◌, ◌<◌}
 use native.Mathlib.Omega.{arith}
 use mathlib.Core.Bool.{Bool, true, false, ◌&&◌, false≢true}
 use mathlib.Core.Path.{◌≡◌, refl, ap, sym, ◌∙◌}

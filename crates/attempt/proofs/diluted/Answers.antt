@@ -1,5 +1,4 @@
 -- `diluted` meets its contract. Assumes nothing.
-use borrow.Author.Rules.{rules}
 use Rattle.attempt.proofs.diluted.Goals as goal
 
 pub returns : goal.returns

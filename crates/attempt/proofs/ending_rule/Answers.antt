@@ -2,7 +2,6 @@
 use Rattle.attempt.specs.Ending.{early_pass, ending_rule}
 use Rattle.refusal.specs.Choice.{pick}
 use borrow.Author.Tests.{eq-eqb, ne_eqb}
-use borrow.Author.Rules.{rules}
 use Rattle.attempt.proofs.Ruled.{ruled_exactly}
 use Rattle.attempt.proofs.ending_rule.Goals as goal
 

@@ -1,5 +1,4 @@
 -- `grown` meets its contract. Assumes nothing.
-use borrow.Author.Rules.{rules}
 use Rattle.attempt.proofs.grown.Goals as goal
 
 pub returns : goal.returns

@@ -1,7 +1,6 @@
 -- `in_row` meets its contract. Assumes nothing.
 use Rattle.attempt.specs.Counting.{in_row}
 use Rattle.refusal.specs.Choice.{pick}
-use borrow.Author.Rules.{rules}
 use Rattle.attempt.proofs.in_row.Goals as goal
 
 pub returns-then-holds : goal.returns-then-holds

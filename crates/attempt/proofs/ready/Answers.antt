@@ -1,6 +1,5 @@
 -- `ready` meets its contract. Assumes nothing.
 use Rattle.attempt.specs.Ready.{ready}
-use borrow.Author.Rules.{rules}
 use Rattle.attempt.proofs.ready.Goals as goal
 
 pub returns : goal.returns

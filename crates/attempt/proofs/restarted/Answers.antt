@@ -1,7 +1,6 @@
 -- `restarted` meets its contract. Assumes nothing.
 use Rattle.refusal.specs.Choice.{pick}
 use Rattle.attempt.specs.Measuring.{restarted}
-use borrow.Author.Rules.{rules}
 use Rattle.attempt.proofs.Runs.{counts_told}
 use Rattle.attempt.proofs.restarted.Goals as goal
 

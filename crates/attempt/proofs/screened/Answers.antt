@@ -2,7 +2,6 @@
 use mathlib.Core.Path.{◌∙◌}
 use Rattle.attempt.specs.Screening.{screened}
 use Rattle.refusal.specs.Choice.{pick}
-use borrow.Author.Rules.{rules}
 use Rattle.attempt.proofs.Screens.{screened_exactly}
 use Rattle.attempt.proofs.Sums.{six_hundred}
 use Rattle.attempt.proofs.screened.Goals as goal

@@ -1,7 +1,6 @@
 -- `second_one` meets its contract. Assumes nothing.
 use Rattle.attempt.specs.Settling.{second_one}
 use mathlib.Core.Path.{◌∙◌}
-use borrow.Author.Rules.{rules}
 use Rattle.attempt.proofs.Most.{first_most}
 use Rattle.attempt.proofs.second_one.Goals as goal
 

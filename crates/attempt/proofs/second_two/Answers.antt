@@ -1,7 +1,6 @@
 -- `second_two` meets its contract. Assumes nothing.
 use Rattle.attempt.specs.Settling.{second_two}
 use mathlib.Core.Path.{◌∙◌}
-use borrow.Author.Rules.{rules}
 use Rattle.attempt.proofs.Most.{next_most}
 use Rattle.attempt.proofs.second_two.Goals as goal
 

@@ -2,7 +2,6 @@
 use Rattle.attempt.specs.Settling.{settled_one}
 use Rattle.refusal.specs.Choice.{pick}
 use mathlib.Core.Path.{◌∙◌}
-use borrow.Author.Rules.{rules}
 use Rattle.attempt.proofs.settled_one.Goals as goal
 
 pub returns-then-k-out : goal.returns-then-k-out

@@ -1,7 +1,6 @@
 -- `settled_two` meets its contract. Assumes nothing.
 use Rattle.attempt.specs.Settling.{settled_two}
 use Rattle.refusal.specs.Choice.{pick}
-use borrow.Author.Rules.{rules}
 use Rattle.attempt.proofs.settled_two.Goals as goal
 
 pub returns-then-k-near : goal.returns-then-k-near

@@ -2,7 +2,6 @@
 use Rattle.attempt.proofs.Runs.{counts_told}
 use Rattle.attempt.proofs.Speeds.{held_exactly, held_more}
 use Rattle.attempt.specs.Measuring.{tallied}
-use borrow.Author.Rules.{rules}
 use Rattle.attempt.proofs.tallied.Goals as goal
 
 pub returns : goal.returns

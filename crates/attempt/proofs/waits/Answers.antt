@@ -1,5 +1,4 @@
 -- `waits` meets its contract. Assumes nothing.
-use borrow.Author.Rules.{rules}
 use Rattle.attempt.proofs.waits.Goals as goal
 
 pub returns : goal.returns

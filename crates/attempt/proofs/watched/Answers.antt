@@ -3,7 +3,6 @@ use Rattle.attempt.specs.Settling.{watched}
 use Rattle.refusal.specs.Choice.{pick}
 use mathlib.Core.Path.{◌∙◌}
 use borrow.Author.Tests.{le-leb, lt-leb}
-use borrow.Author.Rules.{rules}
 use Rattle.attempt.proofs.watched.Goals as goal
 
 pub returns-then-k-le20 : goal.returns-then-k-le20

@@ -1,6 +1,5 @@
 -- `window_counted` meets its contract. Assumes nothing.
 use Rattle.attempt.specs.Measuring.{window_counted}
-use borrow.Author.Rules.{rules}
 use Rattle.attempt.proofs.window_counted.Goals as goal
 
 pub returns : goal.returns

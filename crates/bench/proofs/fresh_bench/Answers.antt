@@ -1,5 +1,4 @@
 -- `bench::fresh_bench` meets its contract. Assumes nothing.
-use borrow.Author.Rules.{rules}
 use Rattle.bench.proofs.fresh_bench.Goals as goal
 
 pub returns : goal.returns

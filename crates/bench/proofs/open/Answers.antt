@@ -2,7 +2,6 @@
 use Rattle.bench.proofs.Lawful.{opens}
 use Rattle.bench.specs.Stepping.{opened_of}
 use Rattle.refusal.specs.Choice.{pick}
-use borrow.Author.Rules.{rules}
 use Rattle.bench.proofs.open.Goals as goal
 
 pub returns-then-validity-limit : goal.returns-then-validity-limit

@@ -1,4 +1,3 @@
-use borrow.Author.Rules.{rules}
 use Rattle.bench.proofs.outside_test.Goals as goal
 
 -- src/lib.rt:119:1

@@ -2,7 +2,6 @@ use borrow.Author.Tests.{lt-ltb, le-ltb}
 use Rattle.refusal.specs.Choice.{pick}
 use Rattle.bench.proofs.Refusing.{stepped}
 use Rattle.bench.specs.Stepping.{step_by}
-use borrow.Author.Rules.{rules}
 use Rattle.bench.proofs.step.Goals as goal
 
 -- src/lib.rt:138:9

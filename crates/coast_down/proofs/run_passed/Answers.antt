@@ -1,7 +1,6 @@
 use Rattle.coast_down.proofs.Exact.{whole_passed, passed_whole, run_claims, time_fits}
 use Prim.Native.Nat.{ℕ, ◌*◌}
 use mathlib.Core.Path.{ap, sym, ◌∙◌}
-use borrow.Author.Rules.{rules}
 use Rattle.coast_down.proofs.run_passed.Goals as goal
 
 -- src/lib.rt:55:16

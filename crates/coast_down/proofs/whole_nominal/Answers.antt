@@ -1,4 +1,3 @@
-use borrow.Author.Rules.{rules}
 use Rattle.coast_down.proofs.whole_nominal.Goals as goal
 
 -- src/lib.rt:38:1

@@ -1,7 +1,6 @@
 -- `correction::dcf` meets its contract: by cases on D and on the quotient. Assumes nothing.
 use mathlib.Core.Path.{◌∙◌}
 use native.Mathlib.Omega.{arith}
-use borrow.Author.Rules.{rules}
 use Rattle.correction.proofs.Held.{at_zero, at_other}
 use Rattle.correction.proofs.Reduced.{dilution_claims}
 use Rattle.correction.proofs.dcf.Goals as goal

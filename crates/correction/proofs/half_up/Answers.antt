@@ -2,7 +2,6 @@
 use mathlib.Core.Path.{sym}
 use native.Mathlib.Nat.{mod-lt}
 use native.Mathlib.Omega.{arith}
-use borrow.Author.Rules.{rules}
 use Rattle.correction.proofs.Halves.{none, down, up, room, half_up_exact}
 use Rattle.correction.proofs.half_up.Goals as goal
 

@@ -1,6 +1,5 @@
 -- `correction::humidity_factor` meets its contract: the ranges bound every product and difference. Assumes nothing.
 use native.Mathlib.Omega.{arith}
-use borrow.Author.Rules.{rules}
 use Rattle.correction.specs.Humidity.{k_h}
 use Rattle.correction.proofs.Ranges.{InRange, k_within}
 use Rattle.correction.proofs.Reduced.{humidity_claims}

@@ -1,6 +1,5 @@
 -- `began` meets its contract. Assumes nothing.
 use mathlib.Core.Path.{◌∙◌}
-use borrow.Author.Rules.{rules}
 use Rattle.loaded_test.proofs.began.Goals as goal
 
 pub returns : goal.returns

@@ -1,7 +1,6 @@
 -- `begin` meets its contract. Assumes nothing.
 use Rattle.loaded_test.specs.Steps.{begin, begun_by}
 use mathlib.Core.Path.{◌∙◌}
-use borrow.Author.Rules.{rules}
 use Rattle.loaded_test.proofs.Claimed.{test_claims}
 use Rattle.loaded_test.proofs.begin.Goals as goal
 

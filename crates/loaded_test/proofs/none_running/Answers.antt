@@ -1,6 +1,5 @@
 -- `none_running` meets its contract. Assumes nothing.
 use mathlib.Core.Path.{◌∙◌}
-use borrow.Author.Rules.{rules}
 use Rattle.loaded_test.proofs.none_running.Goals as goal
 
 pub returns : goal.returns

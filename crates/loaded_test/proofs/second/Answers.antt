@@ -1,7 +1,6 @@
 -- `second` meets its contract. Assumes nothing.
 use Rattle.loaded_test.specs.Steps.{second_at}
 use Rattle.loaded_test.proofs.Refusing.{second_carries}
-use borrow.Author.Rules.{rules}
 use Rattle.loaded_test.proofs.second.Goals as goal
 
 pub returns-in-NotBegun : goal.returns-in-NotBegun

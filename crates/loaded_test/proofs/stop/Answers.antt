@@ -2,7 +2,6 @@
 use Rattle.loaded_test.specs.Steps.{stop}
 use Rattle.refusal.specs.Choice.{pick}
 use mathlib.Core.Path.{◌∙◌}
-use borrow.Author.Rules.{rules}
 use borrow.Author.Tests.{not-true, not-false}
 use Rattle.loaded_test.proofs.Refusing.{stop_carries}
 use Rattle.loaded_test.proofs.stop.Goals as goal

@@ -1,7 +1,6 @@
 use mathlib.Core.Path.{◌∙◌}
 use Rattle.locks.proofs.Stands.{stands_exactly}
 use Rattle.locks.specs.State.{lock_number}
-use borrow.Author.Rules.{rules}
 use Rattle.locks.proofs.lock_number.Goals as goal
 
 -- src/lib.rt:204:1

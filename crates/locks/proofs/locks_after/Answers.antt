@@ -1,4 +1,3 @@
-use borrow.Author.Rules.{rules}
 use Rattle.locks.proofs.locks_after.Goals as goal
 
 -- src/lib.rt:173:1

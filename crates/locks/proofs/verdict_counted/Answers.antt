@@ -1,5 +1,4 @@
 -- `locks::verdict_counted` meets its contract. Assumes nothing.
-use borrow.Author.Rules.{rules}
 use Rattle.locks.proofs.verdict_counted.Goals as goal
 
 pub returns : goal.returns

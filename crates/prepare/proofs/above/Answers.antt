@@ -1,5 +1,4 @@
 -- `prepare::above` meets its contract. Assumes nothing.
-use borrow.Author.Rules.{rules}
 use Rattle.prepare.proofs.above.Goals as goal
 
 pub returns : goal.returns

@@ -2,7 +2,6 @@
 use Rattle.refusal.specs.Choice.{pick}
 use Rattle.prepare.specs.Standing.{above_greatest}
 use Rattle.prepare.proofs.Exact.{background_claims}
-use borrow.Author.Rules.{rules}
 use Rattle.prepare.proofs.above_greatest.Goals as goal
 
 pub returns-then-above : goal.returns-then-above

@@ -1,7 +1,6 @@
 -- `prepare::prepare_stands` meets its contract. Assumes nothing.
 use Rattle.prepare.specs.Standing.{prepare_stands}
 use Rattle.prepare.proofs.Exact.{prepare_claims}
-use borrow.Author.Rules.{rules}
 use Rattle.prepare.proofs.prepare_stands.Goals as goal
 
 pub returns : goal.returns

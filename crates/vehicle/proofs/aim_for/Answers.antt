@@ -1,5 +1,4 @@
 -- `vehicle::aim_for` meets its contract: by what it calls. Assumes nothing.
-use borrow.Author.Rules.{rules}
 use Rattle.vehicle.proofs.aim_for.Goals as goal
 
 pub returns : goal.returns

@@ -1,5 +1,4 @@
 -- `vehicle::aim_of` meets its contract: by mode. Assumes nothing.
-use borrow.Author.Rules.{rules}
 use Rattle.vehicle.specs.Driving.{aim_of}
 use Rattle.vehicle.proofs.aim_of.Goals as goal
 

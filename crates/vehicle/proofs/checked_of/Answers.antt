@@ -4,7 +4,6 @@ use Rattle.refusal.specs.Choice.{pick}
 use Rattle.vehicle.specs.Checked.{checked_of}
 use borrow.Author.Tests.{ne_eqb}
 use mathlib.Core.Path.{◌∙◌, sym}
-use borrow.Author.Rules.{rules}
 use Rattle.vehicle.proofs.checked_of.Goals as goal
 
 -- src/lib.rt:239:9

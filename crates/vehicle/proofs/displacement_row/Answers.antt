@@ -1,9 +1,6 @@
 -- `vehicle::displacement_row` meets its contract: the loop's invariant: the row is i, and what is left of the bounds gives the rest. Assumes nothing.
-use mathlib.Core.Path.{◌≡◌}
-use Prim.Native.Nat.{◌+◌, ◌-◌, ◌≤◌}
 use native.Mathlib.Omega.{arith}
-use lib.ListN.{drop}
-use Rattle.vehicle.specs.Loads.{row_up_to, displacement_bounds}
+use Rattle.vehicle.specs.Loads.{displacement_bounds}
 use Rattle.vehicle.proofs.Rows.{row_last, row_here, row_passed}
 use Rattle.vehicle.proofs.displacement_row.Goals as goal
 

@@ -1,10 +1,8 @@
 -- What the loop of `vehicle::displacement_row` keeps, and what falls. Assumes nothing.
 use mathlib.Core.Path.{◌≡◌}
 use Prim.Native.Nat.{◌+◌, ◌-◌, ◌≤◌}
-use native.Mathlib.Omega.{arith}
 use lib.ListN.{drop}
 use Rattle.vehicle.specs.Loads.{row_up_to, displacement_bounds}
-use Rattle.vehicle.proofs.Rows.{row_last, row_here, row_passed}
 use Rattle.vehicle.proofs.displacement_row.Given as goal
 
 abbrev pub invariant-loop-i : goal.invariant-loop-i

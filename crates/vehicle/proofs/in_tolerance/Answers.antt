@@ -2,7 +2,6 @@
 use mathlib.Core.Path.{◌≡◌}
 use Prim.Native.Nat.{max}
 use native.Mathlib.Omega.{arith}
-use borrow.Author.Rules.{rules}
 use Rattle.vehicle.specs.Driving.{in_tolerance}
 use Rattle.vehicle.proofs.in_tolerance.Goals as goal
 

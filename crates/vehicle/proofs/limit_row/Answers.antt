@@ -1,7 +1,6 @@
 -- `vehicle::limit_row` meets its contract: by cases on the two tests. Assumes nothing.
 use mathlib.Core.Bool.{not}
 use native.Mathlib.Omega.{arith}
-use borrow.Author.Rules.{rules}
 use Rattle.vehicle.proofs.Rows.{bit_at_most, limit_row_of}
 use Rattle.vehicle.proofs.limit_row.Goals as goal
 

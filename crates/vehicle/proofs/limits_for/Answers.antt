@@ -1,5 +1,4 @@
 -- `vehicle::limits_for` meets its contract: the table's entry at the row. Assumes nothing.
-use borrow.Author.Rules.{rules}
 use Rattle.vehicle.specs.Limits.{limits_for}
 use Rattle.vehicle.proofs.Rows.{at_limit_row}
 use Rattle.vehicle.proofs.limits_for.Goals as goal

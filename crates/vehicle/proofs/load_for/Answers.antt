@@ -1,5 +1,4 @@
 -- `vehicle::load_for` meets its contract: the table's entry at the row. Assumes nothing.
-use borrow.Author.Rules.{rules}
 use Rattle.vehicle.specs.Loads.{load_for, loads}
 use Rattle.vehicle.proofs.load_for.Goals as goal
 

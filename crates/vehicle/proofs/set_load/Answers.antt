@@ -1,5 +1,4 @@
 -- `vehicle::set_load` meets its contract: by what it calls. Assumes nothing.
-use borrow.Author.Rules.{rules}
 use Rattle.vehicle.proofs.set_load.Goals as goal
 
 pub returns : goal.returns

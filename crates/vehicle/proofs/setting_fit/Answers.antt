@@ -1,5 +1,4 @@
 -- `vehicle::setting_fit` meets its contract: past the seven, a moped's displacement, or the table. Assumes nothing.
-use borrow.Author.Rules.{rules}
 use Rattle.vehicle.specs.Settings.{ranges}
 use Rattle.vehicle.proofs.Places.{none_fit, moped_fit, table_fit}
 use Rattle.vehicle.proofs.setting_fit.Goals as goal

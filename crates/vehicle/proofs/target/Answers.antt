@@ -1,5 +1,4 @@
 -- `vehicle::target` meets its contract: by what it calls. Assumes nothing.
-use borrow.Author.Rules.{rules}
 use Rattle.vehicle.proofs.target.Goals as goal
 
 pub returns : goal.returns

@@ -1,6 +1,5 @@
 -- `vehicle::target_for` meets its contract: by mode and kind. Assumes nothing.
 use borrow.Author.Tests.{eq-eqb, ne_eqb}
-use borrow.Author.Rules.{rules}
 use Rattle.vehicle.specs.Loads.{target_for}
 use Rattle.refusal.specs.Choice.{pick}
 use Rattle.vehicle.proofs.target_for.Goals as goal

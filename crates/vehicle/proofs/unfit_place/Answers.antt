@@ -1,6 +1,5 @@
 -- `vehicle::unfit_place` meets its contract: each return by the settings tested before it. Assumes nothing.
 use borrow.Author.Tests.{not-true, not-false}
-use borrow.Author.Rules.{rules}
 use Rattle.refusal.specs.Choice.{first_unfit}
 use Rattle.vehicle.specs.Settings.{unfit_place}
 use Rattle.vehicle.proofs.unfit_place.Goals as goal

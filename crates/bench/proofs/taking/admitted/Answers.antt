@@ -1,4 +1,3 @@
-use borrow.Author.Rules.{rules}
 use Rattle.bench.proofs.taking.admitted.Goals as goal
 
 -- src/taking.rt:136:1

@@ -1,4 +1,3 @@
-use borrow.Author.Rules.{rules}
 use Rattle.bench.proofs.taking.desk_after.Goals as goal
 
 -- src/taking.rt:53:1

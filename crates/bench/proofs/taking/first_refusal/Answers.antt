@@ -1,5 +1,4 @@
 -- `bench::taking::first_refusal` meets its contract. Assumes nothing.
-use borrow.Author.Rules.{rules}
 use Rattle.bench.proofs.taking.first_refusal.Goals as goal
 
 pub returns-in-Refused : goal.returns-in-Refused

@@ -1,5 +1,4 @@
 -- `bench::taking::followed` meets its contract. Assumes nothing.
-use borrow.Author.Rules.{rules}
 use Rattle.bench.proofs.taking.followed.Goals as goal
 
 pub returns-in-GoesOn : goal.returns-in-GoesOn

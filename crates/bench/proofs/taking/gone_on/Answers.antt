@@ -1,4 +1,3 @@
-use borrow.Author.Rules.{rules}
 use Rattle.bench.proofs.taking.gone_on.Goals as goal
 
 -- src/taking.rt:168:1

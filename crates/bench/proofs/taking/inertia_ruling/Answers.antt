@@ -1,6 +1,5 @@
 use Rattle.bench.specs.Stepping.{inertia_ruling}
 use Rattle.refusal.specs.Choice.{pick}
-use borrow.Author.Rules.{rules}
 use Rattle.bench.proofs.taking.inertia_ruling.Goals as goal
 
 -- src/taking.rt:126:9

@@ -1,5 +1,4 @@
 -- `bench::taking::judged_with` meets its contract. Assumes nothing.
-use borrow.Author.Rules.{rules}
 use Rattle.bench.proofs.taking.judged_with.Goals as goal
 
 pub returns : goal.returns

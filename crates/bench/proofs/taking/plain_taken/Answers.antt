@@ -1,5 +1,4 @@
 -- `bench::taking::plain_taken` meets its contract. Assumes nothing.
-use borrow.Author.Rules.{rules}
 use Rattle.bench.proofs.taking.plain_taken.Goals as goal
 
 pub returns : goal.returns

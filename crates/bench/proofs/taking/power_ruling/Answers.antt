@@ -1,6 +1,5 @@
 use Rattle.bench.specs.Stepping.{power_ruling}
 use Rattle.refusal.specs.Choice.{pick}
-use borrow.Author.Rules.{rules}
 use Rattle.bench.proofs.taking.power_ruling.Goals as goal
 
 -- src/taking.rt:136:9

@@ -1,6 +1,5 @@
 -- `bench::taking::second_fit` meets its contract. Assumes nothing.
 use mathlib.Core.Path.{◌∙◌}
-use borrow.Author.Rules.{rules}
 use Rattle.bench.proofs.taking.second_fit.Goals as goal
 
 pub returns : goal.returns

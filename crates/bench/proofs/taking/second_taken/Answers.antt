@@ -1,5 +1,4 @@
 use Rattle.bench.specs.Stepping.{second_taken}
-use borrow.Author.Rules.{rules}
 use Rattle.bench.proofs.taking.second_taken.Goals as goal
 
 -- src/taking.rt:225:1

@@ -1,5 +1,4 @@
 use mathlib.Core.Path.{◌∙◌}
-use borrow.Author.Rules.{rules}
 use Rattle.bench.proofs.taking.service_ruling.Goals as goal
 
 -- src/taking.rt:150:1

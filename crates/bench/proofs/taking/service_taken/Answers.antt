@@ -1,6 +1,5 @@
 use Rattle.bench.specs.Stepping.{service_taken}
 use mathlib.Core.Path.{◌∙◌}
-use borrow.Author.Rules.{rules}
 use Rattle.bench.proofs.taking.service_taken.Goals as goal
 
 -- src/taking.rt:173:1

@@ -1,4 +1,3 @@
-use borrow.Author.Rules.{rules}
 use Rattle.bench.proofs.taking.start_judged.Goals as goal
 
 -- src/taking.rt:146:1

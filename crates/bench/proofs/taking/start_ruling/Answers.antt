@@ -1,6 +1,5 @@
 -- `bench::taking::start_ruling` meets its contract. Assumes nothing.
 use mathlib.Core.Path.{◌∙◌}
-use borrow.Author.Rules.{rules}
 use Rattle.bench.proofs.taking.start_ruling.Goals as goal
 
 pub returns : goal.returns

@@ -1,6 +1,5 @@
 use mathlib.Core.Path.{◌∙◌}
 use Rattle.bench.specs.Stepping.{start_taken}
-use borrow.Author.Rules.{rules}
 use Rattle.bench.proofs.taking.start_taken.Goals as goal
 
 -- src/taking.rt:156:1

@@ -1,7 +1,6 @@
 -- `bench::taking::stop_taken` meets its contract. Assumes nothing.
 use Rattle.bench.specs.Stepping.{stop_taken}
 use mathlib.Core.Path.{◌∙◌}
-use borrow.Author.Rules.{rules}
 use Rattle.bench.proofs.taking.stop_taken.Goals as goal
 
 pub returns : goal.returns

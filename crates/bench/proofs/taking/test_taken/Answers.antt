@@ -1,5 +1,4 @@
 -- `bench::taking::test_taken` meets its contract. Assumes nothing.
-use borrow.Author.Rules.{rules}
 use Rattle.bench.proofs.taking.test_taken.Goals as goal
 
 pub returns-in-Told : goal.returns-in-Told

@@ -1,4 +1,3 @@
-use borrow.Author.Rules.{rules}
 use Rattle.bench.proofs.taking.with_none.Goals as goal
 
 -- src/taking.rt:74:1

@@ -1,4 +1,3 @@
-use borrow.Author.Rules.{rules}
 use Rattle.bench.proofs.taking.with_test.Goals as goal
 
 -- src/taking.rt:64:1

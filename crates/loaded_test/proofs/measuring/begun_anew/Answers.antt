@@ -1,6 +1,5 @@
 -- `measuring::begun_anew` meets its contract. Assumes nothing.
 use mathlib.Core.Path.{◌∙◌}
-use borrow.Author.Rules.{rules}
 use Rattle.loaded_test.proofs.measuring.begun_anew.Goals as goal
 
 pub returns : goal.returns

@@ -1,6 +1,5 @@
 -- `measuring::closed` meets its contract. Assumes nothing.
 use Rattle.loaded_test.specs.Measuring.{closed}
-use borrow.Author.Rules.{rules}
 use Rattle.loaded_test.proofs.measuring.closed.Goals as goal
 
 pub returns-in-NotYet : goal.returns-in-NotYet

@@ -1,6 +1,5 @@
 -- `measuring::closed_not` meets its contract. Assumes nothing.
 use Rattle.loaded_test.specs.Measuring.{closed}
-use borrow.Author.Rules.{rules}
 use Rattle.loaded_test.proofs.measuring.closed_not.Goals as goal
 
 pub returns : goal.returns

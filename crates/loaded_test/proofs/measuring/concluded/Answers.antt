@@ -1,7 +1,6 @@
 -- `measuring::concluded` meets its contract. Assumes nothing.
 use Rattle.loaded_test.specs.Measuring.{concluded}
 use mathlib.Core.Path.{◌∙◌}
-use borrow.Author.Rules.{rules}
 use Rattle.loaded_test.proofs.measuring.concluded.Goals as goal
 
 pub returns : goal.returns

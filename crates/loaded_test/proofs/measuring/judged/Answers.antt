@@ -3,7 +3,6 @@ use mathlib.Core.Path.{◌∙◌}
 use borrow.Author.Tests.{not-true, not-false}
 use Rattle.refusal.specs.Choice.{pick}
 use Rattle.loaded_test.specs.Measuring.{window_judged, window_kept, judged}
-use borrow.Author.Rules.{rules}
 use Rattle.loaded_test.proofs.measuring.judged.Goals as goal
 
 pub returns-then-not-valid : goal.returns-then-not-valid

@@ -1,7 +1,6 @@
 -- `measuring::measured` meets its contract. Assumes nothing.
 use Rattle.loaded_test.specs.Steps.{measured}
 use mathlib.Core.Path.{◌∙◌}
-use borrow.Author.Rules.{rules}
 use Rattle.loaded_test.proofs.measuring.measured.Goals as goal
 
 pub returns : goal.returns

@@ -2,7 +2,6 @@
 use Rattle.loaded_test.specs.Measuring.{measures}
 use Rattle.refusal.specs.Choice.{pick}
 use mathlib.Core.Path.{◌∙◌}
-use borrow.Author.Rules.{rules}
 use Rattle.loaded_test.proofs.measuring.measures.Goals as goal
 
 pub returns-then-restarts : goal.returns-then-restarts

@@ -1,6 +1,5 @@
 -- `measuring::window_taken` meets its contract. Assumes nothing.
 use Rattle.loaded_test.specs.Measuring.{window_taken}
-use borrow.Author.Rules.{rules}
 use Rattle.loaded_test.proofs.measuring.window_taken.Goals as goal
 
 pub returns : goal.returns

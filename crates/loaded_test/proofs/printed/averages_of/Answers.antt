@@ -1,6 +1,5 @@
 -- `printed::averages_of` meets its contract. Assumes nothing.
 use mathlib.Core.Path.{◌∙◌}
-use borrow.Author.Rules.{rules}
 use Rattle.loaded_test.proofs.printed.averages_of.Goals as goal
 
 pub returns : goal.returns

@@ -1,6 +1,5 @@
 -- `printed::engine_speed_of` meets its contract. Assumes nothing.
 use mathlib.Core.Path.{◌∙◌}
-use borrow.Author.Rules.{rules}
 use Rattle.loaded_test.specs.State.{engine_shown}
 use Rattle.loaded_test.proofs.printed.engine_speed_of.Goals as goal
 

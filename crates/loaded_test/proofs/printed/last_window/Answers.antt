@@ -1,7 +1,6 @@
 -- `printed::last_window` meets its contract. Assumes nothing.
 use Rattle.refusal.specs.Choice.{pick}
 use Rattle.loaded_test.specs.State.{last_window}
-use borrow.Author.Rules.{rules}
 use Rattle.loaded_test.proofs.printed.last_window.Goals as goal
 
 pub returns-then-x : goal.returns-then-x

@@ -1,6 +1,5 @@
 -- `settling::closed_one` meets its contract. Assumes nothing.
 use Rattle.loaded_test.specs.Settling.{closed_one}
-use borrow.Author.Rules.{rules}
 use Rattle.loaded_test.proofs.settling.closed_one.Goals as goal
 
 pub returns : goal.returns

@@ -1,6 +1,5 @@
 -- `settling::closed_two` meets its contract. Assumes nothing.
 use Rattle.loaded_test.specs.Settling.{closed_two}
-use borrow.Author.Rules.{rules}
 use Rattle.loaded_test.proofs.settling.closed_two.Goals as goal
 
 pub returns : goal.returns

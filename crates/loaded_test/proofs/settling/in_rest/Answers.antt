@@ -1,6 +1,5 @@
 -- `settling::in_rest` meets its contract. Assumes nothing.
 use Rattle.loaded_test.specs.Steps.{second_at}
-use borrow.Author.Rules.{rules}
 use Rattle.loaded_test.proofs.settling.in_rest.Goals as goal
 
 pub returns : goal.returns

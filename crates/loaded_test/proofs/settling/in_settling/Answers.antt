@@ -1,7 +1,6 @@
 -- `settling::in_settling` meets its contract. Assumes nothing.
 use Rattle.loaded_test.specs.Steps.{in_attempt, second_at}
 use mathlib.Core.Path.{◌∙◌}
-use borrow.Author.Rules.{rules}
 use Rattle.loaded_test.proofs.settling.in_settling.Goals as goal
 
 pub returns-in-Waits : goal.returns-in-Waits

@@ -1,7 +1,6 @@
 -- `settling::rest_count` meets its contract. Assumes nothing.
 use Rattle.loaded_test.specs.Rest.{rest_count}
 use mathlib.Core.Path.{◌∙◌}
-use borrow.Author.Rules.{rules}
 use Rattle.loaded_test.proofs.settling.rest_count.Goals as goal
 
 pub returns : goal.returns

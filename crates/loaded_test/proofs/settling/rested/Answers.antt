@@ -2,7 +2,6 @@
 use Rattle.loaded_test.specs.Rest.{rested}
 use Rattle.refusal.specs.Choice.{pick}
 use borrow.Author.Tests.{eq-eqb, ne_eqb}
-use borrow.Author.Rules.{rules}
 use Rattle.loaded_test.proofs.settling.rested.Goals as goal
 
 pub returns-then-k-eq10 : goal.returns-then-k-eq10

@@ -1,6 +1,5 @@
 -- `settling::settles` meets its contract. Assumes nothing.
 use Rattle.loaded_test.specs.Settling.{settles}
-use borrow.Author.Rules.{rules}
 use Rattle.loaded_test.proofs.settling.settles.Goals as goal
 
 pub returns-in-One : goal.returns-in-One

@@ -1,7 +1,6 @@
 -- `settling::settles_one` meets its contract. Assumes nothing.
 use Rattle.loaded_test.specs.Settling.{settles_in}
 use mathlib.Core.Path.{◌∙◌}
-use borrow.Author.Rules.{rules}
 use Rattle.loaded_test.proofs.settling.settles_one.Goals as goal
 
 pub returns : goal.returns

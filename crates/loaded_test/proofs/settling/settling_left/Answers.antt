@@ -2,7 +2,6 @@
 use Rattle.loaded_test.specs.Settling.{settling_left}
 use Rattle.refusal.specs.Choice.{pick}
 use mathlib.Core.Path.{◌∙◌}
-use borrow.Author.Rules.{rules}
 use Rattle.loaded_test.proofs.settling.settling_left.Goals as goal
 
 pub returns-then-begins : goal.returns-then-begins

@@ -1,6 +1,5 @@
 -- `steps::has_ended` meets its contract. Assumes nothing.
 use Rattle.loaded_test.specs.Going.{has_ended}
-use borrow.Author.Rules.{rules}
 use Rattle.loaded_test.proofs.steps.has_ended.Goals as goal
 
 pub returns-in-NotBegun : goal.returns-in-NotBegun

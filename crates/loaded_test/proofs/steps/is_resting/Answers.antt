@@ -1,6 +1,5 @@
 -- `steps::is_resting` meets its contract. Assumes nothing.
 use Rattle.loaded_test.specs.Steps.{is_resting}
-use borrow.Author.Rules.{rules}
 use Rattle.loaded_test.proofs.steps.is_resting.Goals as goal
 
 pub returns-in-NotBegun : goal.returns-in-NotBegun

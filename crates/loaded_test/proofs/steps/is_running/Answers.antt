@@ -1,6 +1,5 @@
 -- `steps::is_running` meets its contract. Assumes nothing.
 use Rattle.loaded_test.specs.Going.{is_running}
-use borrow.Author.Rules.{rules}
 use Rattle.loaded_test.proofs.steps.is_running.Goals as goal
 
 pub returns-in-NotBegun : goal.returns-in-NotBegun

@@ -1,7 +1,6 @@
 -- `steps::stop_taken` meets its contract. Assumes nothing.
 use Rattle.loaded_test.specs.Steps.{stop_taken}
 use Rattle.refusal.specs.Choice.{pick}
-use borrow.Author.Rules.{rules}
 use Rattle.loaded_test.proofs.steps.stop_taken.Goals as goal
 
 pub returns-then-resting-p : goal.returns-then-resting-p

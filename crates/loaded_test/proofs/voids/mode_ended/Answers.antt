@@ -1,6 +1,5 @@
 -- `voids::mode_ended` meets its contract. Assumes nothing.
 use Rattle.loaded_test.specs.Voids.{mode_ended}
-use borrow.Author.Rules.{rules}
 use Rattle.loaded_test.proofs.voids.mode_ended.Goals as goal
 
 pub returns-in-One : goal.returns-in-One

@@ -1,5 +1,4 @@
 -- `voids::mode_two` meets its contract. Assumes nothing.
-use borrow.Author.Rules.{rules}
 use Rattle.loaded_test.proofs.voids.mode_two.Goals as goal
 
 pub returns : goal.returns

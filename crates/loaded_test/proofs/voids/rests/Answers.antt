@@ -1,5 +1,4 @@
 -- `voids::rests` meets its contract. Assumes nothing.
-use borrow.Author.Rules.{rules}
 use Rattle.loaded_test.proofs.voids.rests.Goals as goal
 
 pub returns : goal.returns

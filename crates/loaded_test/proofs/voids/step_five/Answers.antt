@@ -2,7 +2,6 @@
 use Rattle.loaded_test.specs.Voids.{step_five}
 use Rattle.refusal.specs.Choice.{pick}
 use borrow.Author.Tests.{eq-eqb, ne_eqb}
-use borrow.Author.Rules.{rules}
 use Rattle.loaded_test.proofs.voids.step_five.Goals as goal
 
 pub returns-then-p-eq145 : goal.returns-then-p-eq145

@@ -1,6 +1,5 @@
 -- `voids::void_counted` meets its contract. Assumes nothing.
 use Rattle.loaded_test.specs.Voids.{void_counted}
-use borrow.Author.Rules.{rules}
 use Rattle.loaded_test.proofs.voids.void_counted.Goals as goal
 
 pub returns : goal.returns

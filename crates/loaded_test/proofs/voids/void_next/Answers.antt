@@ -1,7 +1,6 @@
 -- `voids::void_next` meets its contract. Assumes nothing.
 use Rattle.loaded_test.specs.Voids.{void_next}
 use Rattle.refusal.specs.Choice.{pick}
-use borrow.Author.Rules.{rules}
 use Rattle.loaded_test.proofs.voids.void_next.Goals as goal
 
 pub returns-then-twice : goal.returns-then-twice

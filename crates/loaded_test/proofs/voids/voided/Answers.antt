@@ -1,7 +1,6 @@
 -- `voids::voided` meets its contract. Assumes nothing.
 use Rattle.loaded_test.specs.Voids.{voided}
 use mathlib.Core.Path.{◌∙◌}
-use borrow.Author.Rules.{rules}
 use Rattle.loaded_test.proofs.voids.voided.Goals as goal
 
 pub returns : goal.returns

@@ -1,6 +1,5 @@
 use Rattle.refusal.specs.Choice.{pick}
 use Rattle.locks.specs.State.{ran_after}
-use borrow.Author.Rules.{rules}
 use Rattle.locks.proofs.coasting.ran_after.Goals as goal
 
 -- src/coasting.rt:51:9

@@ -1,4 +1,3 @@
-use borrow.Author.Rules.{rules}
 use Rattle.locks.proofs.coasting.ran_by.Goals as goal
 
 -- src/coasting.rt:17:1

@@ -1,5 +1,4 @@
 use mathlib.Core.Path.{◌∙◌}
-use borrow.Author.Rules.{rules}
 use Rattle.locks.proofs.events.clock_after.Goals as goal
 
 -- src/events.rt:100:1

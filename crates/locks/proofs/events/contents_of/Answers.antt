@@ -1,4 +1,3 @@
-use borrow.Author.Rules.{rules}
 use Rattle.locks.proofs.events.contents_of.Goals as goal
 
 -- src/events.rt:22:1

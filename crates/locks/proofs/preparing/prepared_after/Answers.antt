@@ -1,7 +1,6 @@
 -- `preparing::prepared_after` meets its contract. Assumes nothing.
 use Rattle.locks.specs.State.{prepared_after}
 use Rattle.refusal.specs.Choice.{pick}
-use borrow.Author.Rules.{rules}
 use Rattle.locks.proofs.preparing.prepared_after.Goals as goal
 
 pub returns-then-gone : goal.returns-then-gone

@@ -1,6 +1,5 @@
 -- `preparing::prepared_with` meets its contract. Assumes nothing.
 use mathlib.Core.Path.{◌∙◌}
-use borrow.Author.Rules.{rules}
 use Rattle.locks.proofs.preparing.prepared_with.Goals as goal
 
 pub returns-in-Prepared : goal.returns-in-Prepared

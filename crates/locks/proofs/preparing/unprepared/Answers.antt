@@ -1,5 +1,4 @@
 -- `preparing::unprepared` meets its contract. Assumes nothing.
-use borrow.Author.Rules.{rules}
 use Rattle.locks.proofs.preparing.unprepared.Goals as goal
 
 pub returns-in-Since : goal.returns-in-Since

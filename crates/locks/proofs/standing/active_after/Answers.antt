@@ -1,6 +1,5 @@
 use Rattle.refusal.specs.Choice.{pick}
 use Rattle.locks.specs.State.{active_after}
-use borrow.Author.Rules.{rules}
 use Rattle.locks.proofs.standing.active_after.Goals as goal
 
 -- src/standing.rt:23:9

@@ -1,4 +1,3 @@
-use borrow.Author.Rules.{rules}
 use Rattle.locks.proofs.standing.idle.Goals as goal
 
 -- src/standing.rt:53:1

@@ -1,4 +1,3 @@
-use borrow.Author.Rules.{rules}
 use Rattle.locks.proofs.standing.standing_of.Goals as goal
 
 -- src/standing.rt:70:1

@@ -1,6 +1,5 @@
 use Rattle.refusal.specs.Choice.{pick}
 use Rattle.locks.specs.State.{security_after}
-use borrow.Author.Rules.{rules}
 use Rattle.locks.proofs.tries.security_after.Goals as goal
 
 -- src/tries.rt:89:9

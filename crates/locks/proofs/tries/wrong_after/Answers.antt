@@ -1,6 +1,5 @@
 use Rattle.refusal.specs.Choice.{pick}
 use Rattle.locks.specs.State.{wrong_after}
-use borrow.Author.Rules.{rules}
 use Rattle.locks.proofs.tries.wrong_after.Goals as goal
 
 -- src/tries.rt:68:9

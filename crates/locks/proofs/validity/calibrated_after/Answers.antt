@@ -1,6 +1,5 @@
 use Rattle.refusal.specs.Choice.{pick}
 use Rattle.locks.specs.State.{calibrated_after}
-use borrow.Author.Rules.{rules}
 use Rattle.locks.proofs.validity.calibrated_after.Goals as goal
 
 -- src/validity.rt:74:9

@@ -1,5 +1,4 @@
 use mathlib.Core.Path.{◌∙◌}
-use borrow.Author.Rules.{rules}
 use Rattle.locks.proofs.validity.calibrated_with.Goals as goal
 
 -- src/validity.rt:72:1

@@ -1,4 +1,3 @@
-use borrow.Author.Rules.{rules}
 use Rattle.locks.proofs.validity.calibration_old.Goals as goal
 
 -- src/validity.rt:128:1

@@ -1,4 +1,3 @@
-use borrow.Author.Rules.{rules}
 use Rattle.locks.proofs.validity.session_after.Goals as goal
 
 -- src/validity.rt:126:1

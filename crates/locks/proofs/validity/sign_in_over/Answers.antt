@@ -1,4 +1,3 @@
-use borrow.Author.Rules.{rules}
 use Rattle.locks.proofs.validity.sign_in_over.Goals as goal
 
 -- src/validity.rt:145:1

@@ -1,6 +1,5 @@
 use Rattle.refusal.specs.Choice.{pick}
 use Rattle.locks.specs.State.{signed_after}
-use borrow.Author.Rules.{rules}
 use Rattle.locks.proofs.validity.signed_after.Goals as goal
 
 -- src/validity.rt:104:9

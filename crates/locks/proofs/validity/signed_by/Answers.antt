@@ -1,4 +1,3 @@
-use borrow.Author.Rules.{rules}
 use Rattle.locks.proofs.validity.signed_by.Goals as goal
 
 -- src/validity.rt:80:1

@@ -1,4 +1,3 @@
-use borrow.Author.Rules.{rules}
 use Rattle.locks.proofs.validity.uncalibrated.Goals as goal
 
 -- src/validity.rt:157:1

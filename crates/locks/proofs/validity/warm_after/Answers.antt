@@ -1,6 +1,5 @@
 use Rattle.refusal.specs.Choice.{pick}
 use Rattle.locks.specs.State.{warm_after}
-use borrow.Author.Rules.{rules}
 use Rattle.locks.proofs.validity.warm_after.Goals as goal
 
 -- src/validity.rt:44:9

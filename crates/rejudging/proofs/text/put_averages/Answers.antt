@@ -2,7 +2,6 @@
 use Rattle.rejudging.proofs.Pieces.{then_stored}
 use Rattle.rejudging.specs.Line.{averages_text}
 use native.Mathlib.Omega.{arith}
-use borrow.Author.Rules.{rules}
 use Rattle.rejudging.proofs.text.put_averages.Goals as goal
 
 pub returns : goal.returns

@@ -1,11 +1,9 @@
 -- `rejudging::text::put_bytes` meets its contract. Assumes nothing.
 use Rattle.rejudging.proofs.Pieces.{put_turn, put_done}
-use lib.Seq.{sets}
-use lib.ListN.{length, drop, length-set}
+use lib.ListN.{length-set}
 use native.Mathlib.Omega.{arith}
 use native.Mathlib.Nat.{add-zero}
-use mathlib.Core.Path.{◌≡◌, refl, sym, ◌∙◌}
-use Prim.Native.Nat.{◌+◌, ◌-◌, ◌≤◌}
+use mathlib.Core.Path.{refl, sym, ◌∙◌}
 use Rattle.rejudging.proofs.text.put_bytes.Goals as goal
 
 pub loop-i-init : goal.loop-i-init

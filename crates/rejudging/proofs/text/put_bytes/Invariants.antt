@@ -1,10 +1,7 @@
 -- What the loop of `rejudging::text::put_bytes` keeps, and what falls. Assumes nothing.
-use Rattle.rejudging.proofs.Pieces.{put_turn, put_done}
 use lib.Seq.{sets}
-use lib.ListN.{length, drop, length-set}
-use native.Mathlib.Omega.{arith}
-use native.Mathlib.Nat.{add-zero}
-use mathlib.Core.Path.{◌≡◌, refl, sym, ◌∙◌}
+use lib.ListN.{length, drop}
+use mathlib.Core.Path.{◌≡◌}
 use Prim.Native.Nat.{◌+◌, ◌-◌, ◌≤◌}
 use Rattle.rejudging.proofs.text.put_bytes.Given as goal
 

@@ -1,7 +1,6 @@
 -- `rejudging::text::put_engine` meets its contract. Assumes nothing.
 use native.Mathlib.Omega.{arith}
 use Rattle.rejudging.specs.Line.{engine_text}
-use borrow.Author.Rules.{rules}
 use Rattle.rejudging.proofs.text.put_engine.Goals as goal
 
 pub returns-in-Mean : goal.returns-in-Mean

@@ -1,6 +1,5 @@
 -- `rejudging::text::put_line` meets its contract. Assumes nothing.
 use Rattle.rejudging.specs.Line.{line_of}
-use borrow.Author.Rules.{rules}
 use Rattle.rejudging.proofs.text.put_line.Goals as goal
 
 pub returns-in-Judged : goal.returns-in-Judged

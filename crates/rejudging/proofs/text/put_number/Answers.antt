@@ -3,7 +3,6 @@ use Rattle.rejudging.proofs.Pieces.{number_stored}
 use lib.ListN.{length-set}
 use mathlib.Core.Path.{◌∙◌}
 use native.Mathlib.Omega.{arith}
-use borrow.Author.Rules.{rules}
 use Rattle.rejudging.proofs.text.put_number.Goals as goal
 
 pub put_decimal-requires : goal.put_decimal-requires

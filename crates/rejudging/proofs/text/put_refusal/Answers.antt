@@ -2,7 +2,6 @@
 use Rattle.rejudging.proofs.Pieces.{then_stored}
 use Rattle.rejudging.specs.Line.{refused_text, refusal_text}
 use native.Mathlib.Omega.{arith}
-use borrow.Author.Rules.{rules}
 use Rattle.rejudging.proofs.text.put_refusal.Goals as goal
 
 pub returns : goal.returns

@@ -3,7 +3,6 @@ use native.Mathlib.Omega.{arith}
 use mathlib.Core.Path.{◌∙◌, ap}
 use Rattle.rejudging.specs.Line.{spaced, sheet_text}
 use Rattle.rejudging.proofs.Pieces.{then_stored, as_piece}
-use borrow.Author.Rules.{rules}
 use Rattle.rejudging.proofs.text.put_sheet.Goals as goal
 
 pub put_number-e-requires : goal.put_number-e-requires

@@ -1,7 +1,6 @@
 -- `rejudging::text::put_window` meets its contract. Assumes nothing.
 use Rattle.rejudging.specs.Line.{window_text}
 use native.Mathlib.Omega.{arith}
-use borrow.Author.Rules.{rules}
 use Rattle.rejudging.proofs.text.put_window.Goals as goal
 
 pub returns-in-Of : goal.returns-in-Of

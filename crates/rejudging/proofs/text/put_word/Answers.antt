@@ -1,7 +1,6 @@
 -- `rejudging::text::put_word` meets its contract. Assumes nothing.
 use Rattle.rejudging.specs.Line.{word_text}
 use native.Mathlib.Omega.{arith}
-use borrow.Author.Rules.{rules}
 use Rattle.rejudging.proofs.text.put_word.Goals as goal
 
 pub returns-in-Open : goal.returns-in-Open
