@@ -1,6 +1,8 @@
-// Events from standard input; 0 for what is past its end.
+// Events from the input; 0 for what is past its end.
 use bench::{Calibration, Event, Residue, Run, SpeedRange, Try, ZeroCheck};
 use reading::{Reading, Readings};
+use std::io;
+use std::io::Read;
 use vehicle::Settings;
 
 // The next event, or none at the end of the input or at a kind that is none.
@@ -10,66 +12,67 @@ pub(crate) enum Found {
     End,
 }
 
-pub(crate) fn next() -> Found {
-    let kind = byte();
-    let clock = long();
-    match kind {
-        1 => Found::Event(Event::PowerOn { clock }),
-        2 => Found::Event(clock_setting(clock)),
-        3 => Found::Event(Event::WarmUp { clock }),
-        4 => Found::Event(calibration(clock)),
-        5 => Found::Event(try_at(clock)),
-        6 => Found::Event(Event::AuthorityLock { clock }),
-        7 => Found::Event(Event::AuthorityUnlock { clock }),
-        8 => Found::Event(Event::Upload { clock }),
-        9 => Found::Event(start(clock)),
-        10 => Found::Event(second(clock)),
-        11 => Found::Event(stop(clock)),
-        12 => Found::Event(coast_down(clock)),
-        13 => Found::Event(prepare(clock)),
-        _ => Found::End,
-    }
+pub(crate) fn next(input: &mut impl Read) -> io::Result<Found> {
+    let kind = byte(input)?;
+    let clock = long(input)?;
+    let event = match kind {
+        1 => Event::PowerOn { clock },
+        2 => clock_setting(input, clock)?,
+        3 => Event::WarmUp { clock },
+        4 => calibration(input, clock)?,
+        5 => try_at(input, clock)?,
+        6 => Event::AuthorityLock { clock },
+        7 => Event::AuthorityUnlock { clock },
+        8 => Event::Upload { clock },
+        9 => start(input, clock)?,
+        10 => second(input, clock)?,
+        11 => stop(input, clock)?,
+        12 => coast_down(input, clock)?,
+        13 => prepare(input, clock)?,
+        _ => return Ok(Found::End),
+    };
+    Ok(Found::Event(event))
 }
 
-fn clock_setting(clock: u32) -> Event {
-    let new_clock = long();
-    Event::ClockSetting { clock, new_clock }
+fn clock_setting(input: &mut impl Read, clock: u32) -> io::Result<Event> {
+    let new_clock = long(input)?;
+    Ok(Event::ClockSetting { clock, new_clock })
 }
 
 // 1 passed.
-fn calibration(clock: u32) -> Event {
-    if byte() == 1 {
-        return Event::Calibration {
+fn calibration(input: &mut impl Read, clock: u32) -> io::Result<Event> {
+    if byte(input)? == 1 {
+        return Ok(Event::Calibration {
             clock,
             outcome: Calibration::Passed,
-        };
+        });
     }
-    Event::Calibration {
+    Ok(Event::Calibration {
         clock,
         outcome: Calibration::Failed,
-    }
+    })
 }
 
 // 1 good, then its expiry.
-fn try_at(clock: u32) -> Event {
-    if byte() == 1 {
-        let expiry = long();
-        return Event::Try {
+fn try_at(input: &mut impl Read, clock: u32) -> io::Result<Event> {
+    if byte(input)? == 1 {
+        let expiry = long(input)?;
+        return Ok(Event::Try {
             clock,
             outcome: Try::Good { expiry },
-        };
+        });
     }
-    Event::Try {
+    Ok(Event::Try {
         clock,
         outcome: Try::Wrong,
-    }
+    })
 }
 
 // The seven settings, then p.
-fn start(clock: u32) -> Event {
+fn start(input: &mut impl Read, clock: u32) -> io::Result<Event> {
     let mut b = [0u8; 16];
-    io::read_full(0, &mut b);
-    Event::Start {
+    read_into(input, &mut b)?;
+    Ok(Event::Start {
         clock,
         settings: Settings {
             kind: joined(b[0], b[1]),
@@ -81,14 +84,14 @@ fn start(clock: u32) -> Event {
             pressure: joined(b[12], b[13]),
         },
         saturation: joined(b[14], b[15]),
-    }
+    })
 }
 
 // The bits of codes 1 to 8.
-fn second(clock: u32) -> Event {
+fn second(input: &mut impl Read, clock: u32) -> io::Result<Event> {
     let mut b = [0u8; 32];
-    io::read_full(0, &mut b);
-    Event::Second {
+    read_into(input, &mut b)?;
+    Ok(Event::Second {
         clock,
         readings: Readings {
             speed: read(b[0], b[1], b[2], b[3]),
@@ -100,21 +103,21 @@ fn second(clock: u32) -> Event {
             co2: read(b[24], b[25], b[26], b[27]),
             o2: read(b[28], b[29], b[30], b[31]),
         },
-    }
+    })
 }
 
-fn stop(clock: u32) -> Event {
-    let cause = byte();
-    Event::Stop { clock, cause }
+fn stop(input: &mut impl Read, clock: u32) -> io::Result<Event> {
+    let cause = byte(input)?;
+    Ok(Event::Stop { clock, cause })
 }
 
 // Inertia, power, which run and the milliseconds.
-fn coast_down(clock: u32) -> Event {
-    let inertia = short();
-    let power = short();
-    let speeds = speed_range(byte());
-    let milliseconds = long();
-    Event::CoastDown {
+fn coast_down(input: &mut impl Read, clock: u32) -> io::Result<Event> {
+    let inertia = short(input)?;
+    let power = short(input)?;
+    let speeds = speed_range(byte(input)?);
+    let milliseconds = long(input)?;
+    Ok(Event::CoastDown {
         clock,
         run: Run {
             inertia,
@@ -122,7 +125,7 @@ fn coast_down(clock: u32) -> Event {
             speeds,
             milliseconds,
         },
-    }
+    })
 }
 
 // 1 the faster.
@@ -134,12 +137,12 @@ fn speed_range(which: u8) -> SpeedRange {
 }
 
 // Background HC, CO, NO and the bits of the residue.
-fn prepare(clock: u32) -> Event {
-    let hc = short();
-    let co = short();
-    let no = short();
-    let residue = Residue(short());
-    Event::Prepare {
+fn prepare(input: &mut impl Read, clock: u32) -> io::Result<Event> {
+    let hc = short(input)?;
+    let co = short(input)?;
+    let no = short(input)?;
+    let residue = Residue(short(input)?);
+    Ok(Event::Prepare {
         clock,
         check: ZeroCheck {
             hc,
@@ -147,29 +150,34 @@ fn prepare(clock: u32) -> Event {
             no,
             residue,
         },
-    }
+    })
 }
 
 fn read(a: u8, b: u8, c: u8, d: u8) -> Reading {
     reading::from_bits(whole(joined(a, b), joined(c, d)))
 }
 
-fn byte() -> u8 {
+fn byte(input: &mut impl Read) -> io::Result<u8> {
     let mut b = [0u8; 1];
-    io::read_full(0, &mut b);
-    b[0]
+    read_into(input, &mut b)?;
+    Ok(b[0])
 }
 
-pub(crate) fn short() -> u16 {
+pub(crate) fn short(input: &mut impl Read) -> io::Result<u16> {
     let mut b = [0u8; 2];
-    io::read_full(0, &mut b);
-    joined(b[0], b[1])
+    read_into(input, &mut b)?;
+    Ok(joined(b[0], b[1]))
 }
 
-pub(crate) fn long() -> u32 {
+pub(crate) fn long(input: &mut impl Read) -> io::Result<u32> {
     let mut b = [0u8; 4];
-    io::read_full(0, &mut b);
-    whole(joined(b[0], b[1]), joined(b[2], b[3]))
+    read_into(input, &mut b)?;
+    Ok(whole(joined(b[0], b[1]), joined(b[2], b[3])))
+}
+
+// Reads all of `into`, zeros past the input's end.
+fn read_into(input: &mut impl Read, into: &mut [u8]) -> io::Result<()> {
+    input.chain(io::repeat(0)).read_exact(into)
 }
 
 fn joined(low: u8, high: u8) -> u16 {

@@ -7,26 +7,33 @@ mod output;
 
 use crate::input::Found;
 use bench::Opening;
+use std::io;
+use std::io::{BufReader, BufWriter, Read, Write};
 
-fn main() {
-    let validity = input::long();
-    let limit = input::short();
+// The bench from its opening on, until the events end.
+fn run(input: &mut impl Read, output: &mut impl Write) -> io::Result<()> {
+    let validity = input::long(input)?;
+    let limit = input::short(input)?;
     let opened = bench::open(validity, limit);
-    let opening = opened.answer;
-    if let Opening::Refused(r) = opening {
-        output::refused(r);
-        return;
+    if let Opening::Refused(r) = opened.answer {
+        return output::refused(output, r);
     }
     let mut state = opened.bench;
-    let mut turns: u32 = 0;
-    while turns < 1_000_000 {
-        turns = turns + 1;
-        let Found::Event(event) = input::next() else {
-            return;
+    for _ in 0..1_000_000 {
+        let Found::Event(event) = input::next(input)? else {
+            break;
         };
         let handled = bench::step(state, event);
-        let answer = handled.answer;
-        output::line(answer);
+        output::line(output, handled.answer)?;
         state = handled.bench;
     }
+    Ok(())
+}
+
+// A read or write that fails ends the run with an error, behind the answers before it.
+fn main(rt: HostRuntime) -> io::Result<()> {
+    let mut input = BufReader::new(rt.alloc(), rt.stdin())?;
+    let mut output = BufWriter::new(rt.alloc(), rt.stdout())?;
+    run(&mut input, &mut output)?;
+    output.flush()
 }

@@ -1,51 +1,53 @@
 // DCF, k_H, the limits and loads of a vehicle, and the judgement of ten seconds.
 use reading::{Converted, Hundredths, Reading, Second, Tenths};
 use refusal::Refusal;
+use std::io;
+use std::io::{Read, Write};
 use vehicle::{Checked, Mode, Settings, Vehicle};
 use window::Measured;
 
 // Tag 1: CO2, CO. Tag 2: settings, p. Tag 3: mode, settings, p, ten seconds. Tag 4: kind, year, displacement, mode, load,
 // speed, whether there is an engine speed, engine speed, gearbox.
-pub(crate) fn item() {
-    let tag = crate::input::byte();
+pub(crate) fn item(input: &mut impl Read, output: &mut impl Write) -> io::Result<()> {
+    let tag = crate::input::byte(input)?;
     match tag {
-        1 => dcf(),
-        2 => factor(),
-        3 => ten(),
-        _ => limits(),
+        1 => dcf(input, output),
+        2 => factor(input, output),
+        3 => ten(input, output),
+        _ => limits(input, output),
     }
 }
 
-fn dcf() {
-    let co2 = Tenths(crate::input::short());
-    let co = Hundredths(crate::input::short());
-    crate::output::text(b"dcf ");
-    crate::output::number(correction::dcf(co2, co) as u64);
-    crate::output::text(b"\n");
+fn dcf(input: &mut impl Read, output: &mut impl Write) -> io::Result<()> {
+    let co2 = Tenths(crate::input::short(input)?);
+    let co = Hundredths(crate::input::short(input)?);
+    crate::output::text(output, b"dcf ")?;
+    crate::output::number(output, correction::dcf(co2, co) as u64)?;
+    crate::output::text(output, b"\n")
 }
 
-pub(crate) fn settings() -> Settings {
-    Settings {
-        kind: crate::input::short(),
-        year: crate::input::short(),
-        displacement: crate::input::short(),
-        gearbox: crate::input::short(),
-        humidity: crate::input::short(),
-        temperature: crate::input::short(),
-        pressure: crate::input::short(),
-    }
+pub(crate) fn settings(input: &mut impl Read) -> io::Result<Settings> {
+    Ok(Settings {
+        kind: crate::input::short(input)?,
+        year: crate::input::short(input)?,
+        displacement: crate::input::short(input)?,
+        gearbox: crate::input::short(input)?,
+        humidity: crate::input::short(input)?,
+        temperature: crate::input::short(input)?,
+        pressure: crate::input::short(input)?,
+    })
 }
 
-fn factor() {
-    let s = settings();
-    let found = vehicle::checked_of(s, crate::input::short());
+fn factor(input: &mut impl Read, output: &mut impl Write) -> io::Result<()> {
+    let s = settings(input)?;
+    let found = vehicle::checked_of(s, crate::input::short(input)?);
     match found {
         Checked::Fit(v) => {
-            crate::output::text(b"k ");
-            crate::output::number(vehicle::humidity_correction(v) as u64);
-            crate::output::text(b"\n");
+            crate::output::text(output, b"k ")?;
+            crate::output::number(output, vehicle::humidity_correction(v) as u64)?;
+            crate::output::text(output, b"\n")
         }
-        Checked::Refused(r) => crate::output::refused(r),
+        Checked::Refused(r) => crate::output::refused(output, r),
     }
 }
 
@@ -67,57 +69,45 @@ struct Taken {
     last: [Measured; 10],
 }
 
-fn ten() {
-    let mode = mode_of(crate::input::byte());
-    let s = settings();
-    let found = vehicle::checked_of(s, crate::input::short());
+fn ten(input: &mut impl Read, output: &mut impl Write) -> io::Result<()> {
+    let mode = mode_of(crate::input::byte(input)?);
+    let s = settings(input)?;
+    let found = vehicle::checked_of(s, crate::input::short(input)?);
     let Checked::Fit(v) = found else {
-        refused_window(found);
-        return;
+        return refused_window(input, output, found);
     };
-    let t = add_second(
-        add_second(
-            add_second(add_second(add_second(blank(), v, mode), v, mode), v, mode),
-            v,
-            mode,
-        ),
-        v,
-        mode,
-    );
-    let t = add_second(
-        add_second(
-            add_second(add_second(add_second(t, v, mode), v, mode), v, mode),
-            v,
-            mode,
-        ),
-        v,
-        mode,
-    );
+    let mut t = blank();
+    for _ in 0..10 {
+        t = add_second(input, t, v, mode)?;
+    }
     let seen = t.seen;
     let last = t.last;
     match seen {
-        Seen::Fit => judged(v, last),
-        Seen::Over => crate::output::text(b"over\n"),
-        Seen::Refused(r) => crate::output::refused(r),
+        Seen::Fit => judged(output, v, last),
+        Seen::Over => crate::output::text(output, b"over\n"),
+        Seen::Refused(r) => crate::output::refused(output, r),
     }
 }
 
 // The ten seconds of a refused vehicle are passed over.
-fn refused_window(found: Checked) {
-    skip_five();
-    skip_five();
+fn refused_window(
+    input: &mut impl Read,
+    output: &mut impl Write,
+    found: Checked,
+) -> io::Result<()> {
+    skip_five(input)?;
+    skip_five(input)?;
     match found {
-        Checked::Fit(_) => {}
-        Checked::Refused(r) => crate::output::refused(r),
+        Checked::Fit(_) => Ok(()),
+        Checked::Refused(r) => crate::output::refused(output, r),
     }
 }
 
-fn skip_five() {
-    crate::readings::eight();
-    crate::readings::eight();
-    crate::readings::eight();
-    crate::readings::eight();
-    crate::readings::eight();
+fn skip_five(input: &mut impl Read) -> io::Result<()> {
+    for _ in 0..5 {
+        crate::readings::eight(input)?;
+    }
+    Ok(())
 }
 
 fn blank() -> Taken {
@@ -128,11 +118,11 @@ fn blank() -> Taken {
 }
 
 // One second more, read from the input.
-fn add_second(t: Taken, v: Vehicle, mode: Mode) -> Taken {
-    let found = reading::second_of(crate::readings::eight(), vehicle::automatic(v));
+fn add_second(input: &mut impl Read, t: Taken, v: Vehicle, mode: Mode) -> io::Result<Taken> {
+    let found = reading::second_of(crate::readings::eight(input)?, vehicle::automatic(v));
     let a = t.last;
     let seen = t.seen;
-    match found {
+    let taken = match found {
         Converted::Fit(s) => {
             let m = window::measured_of(v, mode, s);
             let last = [m, a[0], a[1], a[2], a[3], a[4], a[5], a[6], a[7], a[8]];
@@ -145,7 +135,8 @@ fn add_second(t: Taken, v: Vehicle, mode: Mode) -> Taken {
             seen: first(seen, r),
             last: a,
         },
-    }
+    };
+    Ok(taken)
 }
 
 fn passed(seen: Seen, s: Second) -> Seen {
@@ -165,45 +156,45 @@ fn first(seen: Seen, r: Refusal) -> Seen {
 }
 
 // Whether the ten seconds are a valid window and whether they pass; their averages and their mean engine speed, valid or not.
-fn judged(v: Vehicle, w: [Measured; 10]) {
+fn judged(output: &mut impl Write, v: Vehicle, w: [Measured; 10]) -> io::Result<()> {
     if window::valid(w) {
-        crate::output::text(b"window valid ");
+        crate::output::text(output, b"window valid ")?;
     } else {
-        crate::output::text(b"window invalid ");
+        crate::output::text(output, b"window invalid ")?;
     }
     if window::passes(v, w) {
-        crate::output::text(b"passing ");
+        crate::output::text(output, b"passing ")?;
     } else {
-        crate::output::text(b"failing ");
+        crate::output::text(output, b"failing ")?;
     }
     let a = window::averages_of(v, w);
-    crate::output::number(a.hc as u64);
-    crate::output::text(b" ");
-    crate::output::number(a.co as u64);
-    crate::output::text(b" ");
-    crate::output::number(a.no as u64);
-    crate::output::text(b" ");
-    crate::output::engine(window::engine_speed_of(w));
-    crate::output::text(b"\n");
+    crate::output::number(output, a.hc as u64)?;
+    crate::output::text(output, b" ")?;
+    crate::output::number(output, a.co as u64)?;
+    crate::output::text(output, b" ")?;
+    crate::output::number(output, a.no as u64)?;
+    crate::output::text(output, b" ")?;
+    crate::output::engine(output, window::engine_speed_of(w))?;
+    crate::output::text(output, b"\n")
 }
 
-fn yes(b: bool) {
+fn yes(output: &mut impl Write, b: bool) -> io::Result<()> {
     if b {
-        crate::output::text(b"yes");
+        crate::output::text(output, b"yes")
     } else {
-        crate::output::text(b"no");
+        crate::output::text(output, b"no")
     }
 }
 
-fn limits() {
-    let kind = crate::input::short();
-    let year = crate::input::short();
-    let displacement = crate::input::short();
-    let mode = mode_of(crate::input::byte());
-    let load = crate::input::short();
-    let speed = crate::input::short();
-    let engine = engine_of(crate::input::byte(), crate::input::short());
-    let gearbox = crate::input::byte() as u16;
+fn limits(input: &mut impl Read, output: &mut impl Write) -> io::Result<()> {
+    let kind = crate::input::short(input)?;
+    let year = crate::input::short(input)?;
+    let displacement = crate::input::short(input)?;
+    let mode = mode_of(crate::input::byte(input)?);
+    let load = crate::input::short(input)?;
+    let speed = crate::input::short(input)?;
+    let engine = engine_of(crate::input::byte(input)?, crate::input::short(input)?);
+    let gearbox = crate::input::byte(input)? as u16;
     let s = Settings {
         kind,
         year,
@@ -215,8 +206,8 @@ fn limits() {
     };
     let found = vehicle::checked_of(s, 2339);
     match found {
-        Checked::Fit(v) => limits_line(v, mode, load, engine),
-        Checked::Refused(r) => crate::output::refused(r),
+        Checked::Fit(v) => limits_line(output, v, mode, load, engine),
+        Checked::Refused(r) => crate::output::refused(output, r),
     }
 }
 
@@ -228,24 +219,30 @@ fn engine_of(present: u8, engine: u16) -> Reading {
     }
 }
 
-fn limits_line(v: Vehicle, mode: Mode, load: u16, engine: Reading) {
+fn limits_line(
+    output: &mut impl Write,
+    v: Vehicle,
+    mode: Mode,
+    load: u16,
+    engine: Reading,
+) -> io::Result<()> {
     let l = vehicle::limits_of(v);
     let set = vehicle::set_load(v, mode);
-    crate::output::text(b"limits ");
-    crate::output::number(l.co as u64);
-    crate::output::text(b" ");
-    crate::output::number(l.hc as u64);
-    crate::output::text(b" ");
-    crate::output::number(l.no as u64);
-    crate::output::text(b" load ");
-    crate::output::number(set as u64);
-    crate::output::text(b" tolerance ");
-    yes(vehicle::in_tolerance(load, set));
-    crate::output::text(b" target ");
-    crate::output::number(vehicle::target(v, mode) as u64);
-    crate::output::text(b" engine ");
-    yes(engine_good(v, engine));
-    crate::output::text(b"\n");
+    crate::output::text(output, b"limits ")?;
+    crate::output::number(output, l.co as u64)?;
+    crate::output::text(output, b" ")?;
+    crate::output::number(output, l.hc as u64)?;
+    crate::output::text(output, b" ")?;
+    crate::output::number(output, l.no as u64)?;
+    crate::output::text(output, b" load ")?;
+    crate::output::number(output, set as u64)?;
+    crate::output::text(output, b" tolerance ")?;
+    yes(output, vehicle::in_tolerance(load, set))?;
+    crate::output::text(output, b" target ")?;
+    crate::output::number(output, vehicle::target(v, mode) as u64)?;
+    crate::output::text(output, b" engine ")?;
+    yes(output, engine_good(v, engine))?;
+    crate::output::text(output, b"\n")
 }
 
 // A second with this engine speed and 0 in the other codes; no second, no good engine speed.

@@ -1,28 +1,36 @@
-// Numbers from standard input, little-endian; 0 for what is past its end.
+// Numbers from the input, little-endian; 0 for what is past its end.
+use std::io;
+use std::io::Read;
 
 // The next byte, or 256 at the end.
-pub(crate) fn topic() -> u32 {
-    let mut b = [0u8; 1];
-    let n = io::read_full(0, &mut b);
-    if n == 1 { wide(b[0]) } else { 256 }
+pub(crate) fn topic(input: &mut impl Read) -> io::Result<u32> {
+    match input.bytes().next() {
+        Some(b) => Ok(wide(b?)),
+        None => Ok(256),
+    }
 }
 
-pub(crate) fn byte() -> u8 {
+pub(crate) fn byte(input: &mut impl Read) -> io::Result<u8> {
     let mut b = [0u8; 1];
-    io::read_full(0, &mut b);
-    b[0]
+    read_into(input, &mut b)?;
+    Ok(b[0])
 }
 
-pub(crate) fn short() -> u16 {
+pub(crate) fn short(input: &mut impl Read) -> io::Result<u16> {
     let mut b = [0u8; 2];
-    io::read_full(0, &mut b);
-    joined(b[0], b[1])
+    read_into(input, &mut b)?;
+    Ok(joined(b[0], b[1]))
 }
 
-pub(crate) fn long() -> u32 {
-    let low = short();
-    let high = short();
-    whole(low, high)
+pub(crate) fn long(input: &mut impl Read) -> io::Result<u32> {
+    let low = short(input)?;
+    let high = short(input)?;
+    Ok(whole(low, high))
+}
+
+// Reads all of `into`, zeros past the input's end.
+fn read_into(input: &mut impl Read, into: &mut [u8]) -> io::Result<()> {
+    input.chain(io::repeat(0)).read_exact(into)
 }
 
 fn wide(x: u8) -> u32 {

@@ -8,21 +8,27 @@ mod output;
 mod readings;
 mod tests;
 
-fn main() {
+use std::io;
+use std::io::{BufReader, BufWriter, Read, Write};
+
+// The items, until the input ends.
+fn run(input: &mut impl Read, output: &mut impl Write) -> io::Result<()> {
     let mut running = loaded_test::none_running();
-    let mut turns: u32 = 0;
-    while turns < 1000000 {
-        turns = turns + 1;
-        let topic = input::topic();
-        match topic {
-            1 => readings::item(),
-            2 => corrections::item(),
-            3 => {
-                running = tests::item(running);
-            }
-            _ => {
-                return;
-            }
+    for _ in 0..1_000_000 {
+        match input::topic(input)? {
+            1 => readings::item(input, output)?,
+            2 => corrections::item(input, output)?,
+            3 => running = tests::item(input, output, running)?,
+            _ => break,
         }
     }
+    Ok(())
+}
+
+// A read or write that fails ends the run with an error, behind the answers before it.
+fn main(rt: HostRuntime) -> io::Result<()> {
+    let mut input = BufReader::new(rt.alloc(), rt.stdin())?;
+    let mut output = BufWriter::new(rt.alloc(), rt.stdout())?;
+    run(&mut input, &mut output)?;
+    output.flush()
 }

@@ -1,49 +1,50 @@
 // A reading of one code, or the eight readings of a second, and what they become.
 use reading::{Converted, Level, Reading, Readings, Second};
+use std::io;
+use std::io::{Read, Write};
 
 // Tag 1: code, gearbox, bits. Tag 2: gearbox, the bits of codes 1 to 8.
-pub(crate) fn item() {
-    let tag = crate::input::byte();
+pub(crate) fn item(input: &mut impl Read, output: &mut impl Write) -> io::Result<()> {
+    let tag = crate::input::byte(input)?;
     if tag == 1 {
-        one();
-        return;
+        return one(input, output);
     }
-    let automatic = crate::input::byte() == 2;
-    let r = eight();
+    let automatic = crate::input::byte(input)? == 2;
+    let r = eight(input)?;
     let found = reading::second_of(r, automatic);
     match found {
-        Converted::Fit(s) => all(s),
-        Converted::Refused(r) => crate::output::refused(r),
+        Converted::Fit(s) => all(output, s),
+        Converted::Refused(r) => crate::output::refused(output, r),
     }
 }
 
-pub(crate) fn eight() -> Readings {
-    Readings {
-        speed: next(),
-        load: next(),
-        engine: next(),
-        hc: next(),
-        co: next(),
-        no: next(),
-        co2: next(),
-        o2: next(),
-    }
+pub(crate) fn eight(input: &mut impl Read) -> io::Result<Readings> {
+    Ok(Readings {
+        speed: next(input)?,
+        load: next(input)?,
+        engine: next(input)?,
+        hc: next(input)?,
+        co: next(input)?,
+        no: next(input)?,
+        co2: next(input)?,
+        o2: next(input)?,
+    })
 }
 
-fn next() -> Reading {
-    reading::from_bits(crate::input::long())
+fn next(input: &mut impl Read) -> io::Result<Reading> {
+    Ok(reading::from_bits(crate::input::long(input)?))
 }
 
 // The other seven codes read 0.
-fn one() {
-    let code = crate::input::byte();
-    let automatic = crate::input::byte() == 2;
-    let r = next();
+fn one(input: &mut impl Read, output: &mut impl Write) -> io::Result<()> {
+    let code = crate::input::byte(input)?;
+    let automatic = crate::input::byte(input)? == 2;
+    let r = next(input)?;
     let zero = reading::from_bits(0);
     let found = reading::second_of(alone(code, r, zero), automatic);
     match found {
-        Converted::Fit(s) => unit_of(s, code),
-        Converted::Refused(r) => crate::output::refused(r),
+        Converted::Fit(s) => unit_of(output, s, code),
+        Converted::Refused(r) => crate::output::refused(output, r),
     }
 }
 
@@ -66,21 +67,19 @@ fn at(place: u8, code: u8, r: Reading, zero: Reading) -> Reading {
 }
 
 // One code's unit count, or why it has none.
-fn unit_of(s: Second, code: u8) {
+fn unit_of(output: &mut impl Write, s: Second, code: u8) -> io::Result<()> {
     if s.over() {
-        crate::output::text(b"over\n");
-        return;
+        return crate::output::text(output, b"over\n");
     }
     if (code == 3) & s.engine_missing() {
-        crate::output::text(b"missing\n");
-        return;
+        return crate::output::text(output, b"missing\n");
     }
     if code == 8 {
-        level(s.oxygen());
+        level(output, s.oxygen())?;
     } else {
-        crate::output::number(count_of(s, code) as u64);
+        crate::output::number(output, count_of(s, code) as u64)?;
     }
-    crate::output::text(b"\n");
+    crate::output::text(output, b"\n")
 }
 
 fn count_of(s: Second, code: u8) -> u16 {
@@ -95,34 +94,34 @@ fn count_of(s: Second, code: u8) -> u16 {
     }
 }
 
-fn level(l: Level) {
+fn level(output: &mut impl Write, l: Level) -> io::Result<()> {
     match l {
-        Level::Count(n) => crate::output::number(n as u64),
-        Level::Missing => crate::output::text(b"missing"),
-        Level::Over => crate::output::text(b"over"),
+        Level::Count(n) => crate::output::number(output, n as u64),
+        Level::Missing => crate::output::text(output, b"missing"),
+        Level::Over => crate::output::text(output, b"over"),
     }
 }
 
-fn cell(n: u16) {
-    crate::output::number(n as u64);
-    crate::output::text(b" ");
+fn cell(output: &mut impl Write, n: u16) -> io::Result<()> {
+    crate::output::number(output, n as u64)?;
+    crate::output::text(output, b" ")
 }
 
 // The counts of codes 1 to 7, the level of code 8, and the two flags where they are set.
-fn all(s: Second) {
-    cell(s.speed());
-    cell(s.load());
-    cell(s.engine());
-    cell(s.hc());
-    cell(s.co().0);
-    cell(s.no());
-    cell(s.co2().0);
-    level(s.oxygen());
+fn all(output: &mut impl Write, s: Second) -> io::Result<()> {
+    cell(output, s.speed())?;
+    cell(output, s.load())?;
+    cell(output, s.engine())?;
+    cell(output, s.hc())?;
+    cell(output, s.co().0)?;
+    cell(output, s.no())?;
+    cell(output, s.co2().0)?;
+    level(output, s.oxygen())?;
     if s.engine_missing() {
-        crate::output::text(b" engine-missing");
+        crate::output::text(output, b" engine-missing")?;
     }
     if s.over() {
-        crate::output::text(b" over-range");
+        crate::output::text(output, b" over-range")?;
     }
-    crate::output::text(b"\n");
+    crate::output::text(output, b"\n")
 }
