@@ -1,8 +1,23 @@
-// Numbers, runs and outputs from standard input; zeros for what is past its end.
-ghost use Rattle.std.specs.Prelude.{◌≡◌, ◌≤◌, ◌<◌, length};
-ghost use Rattle.io.specs.Counts.{IsPrefixLen};
+// Numbers, runs and outputs from the input; zeros for what is past its end.
+ghost use Rattle.std.specs.Prelude.{◌≡◌, ◌≤◌, ◌<◌, IfOk, length};
+ghost use Rattle.std.specs.Counts.{IsPrefixLen};
+
+use std::io;
+use std::io::Read;
 
 // Zeros to read into.
+pub(crate) fn byte_space() -> [u8; 4096]
+    ensures { 4096 ≡ length result }
+{
+    [0; 4096]
+}
+
+pub(crate) fn large_space() -> [u8; 65536]
+    ensures { 65536 ≡ length result }
+{
+    [0; 65536]
+}
+
 pub(crate) fn half_space() -> [u16; 4096]
     ensures { 4096 ≡ length result }
 {
@@ -45,16 +60,16 @@ fn word_at(s: &[u8], at: usize) -> u32
 }
 
 // The next n bytes of the input, as far as they fit.
-fn next_bytes(into: &mut [u8], n: usize) {
+fn next_bytes(input: &mut impl Read, into: &mut [u8], n: usize) -> io::Result<()> {
     let k = within(n, into);
-    io::read_full(0, &mut into[..k]);
+    input.chain(io::repeat(0)).read_exact(&mut into[..k])
 }
 
 // The next number of the input, in `width` bytes.
-pub(crate) fn next(width: usize) -> usize {
-    let mut b = io::buffer();
-    next_bytes(&mut b, width);
-    word_at(&b, 0) as usize
+pub(crate) fn next(input: &mut impl Read, width: usize) -> io::Result<usize> {
+    let mut b = byte_space();
+    next_bytes(input, &mut b, width)?;
+    Ok(word_at(&b, 0) as usize)
 }
 
 fn halves(s: &[u8], into: &mut [u16]) {
@@ -74,33 +89,33 @@ fn words(s: &[u8], into: &mut [u32]) {
 }
 
 // The next run of bytes, after its count in `width` bytes: a record too.
-pub(crate) fn next_run(width: usize, into: &mut [u8]) -> usize
-    ensures { IsPrefixLen result into.new }
+pub(crate) fn next_run(input: &mut impl Read, width: usize, into: &mut [u8]) -> io::Result<usize>
+    ensures { IfOk result (λ n. IsPrefixLen n into.new) }
 {
-    let n = cut(next(width), into.len());
-    next_bytes(into, n);
-    n
+    let n = cut(next(input, width)?, into.len());
+    next_bytes(input, into, n)?;
+    Ok(n)
 }
 
 // The next run of numbers of two bytes, and of four, after its count.
-pub(crate) fn next_halves(into: &mut [u16]) -> usize
-    ensures { IsPrefixLen result into.new }
+pub(crate) fn next_halves(input: &mut impl Read, into: &mut [u16]) -> io::Result<usize>
+    ensures { IfOk result (λ n. IsPrefixLen n into.new) }
 {
-    let n = cut(next(2), into.len());
-    let mut b = io::large_buffer();
-    next_bytes(&mut b, 2 * n);
+    let n = cut(next(input, 2)?, into.len());
+    let mut b = large_space();
+    next_bytes(input, &mut b, 2 * n)?;
     halves(&b, into);
-    n
+    Ok(n)
 }
 
-pub(crate) fn next_words(into: &mut [u32]) -> usize
-    ensures { IsPrefixLen result into.new }
+pub(crate) fn next_words(input: &mut impl Read, into: &mut [u32]) -> io::Result<usize>
+    ensures { IfOk result (λ n. IsPrefixLen n into.new) }
 {
-    let n = cut(next(4), into.len());
-    let mut b = io::large_buffer();
-    next_bytes(&mut b, 4 * n);
+    let n = cut(next(input, 4)?, into.len());
+    let mut b = large_space();
+    next_bytes(input, &mut b, 4 * n)?;
     words(&b, into);
-    n
+    Ok(n)
 }
 
 fn fill(out: &mut [u8], b: u8) {
@@ -112,11 +127,11 @@ fn fill(out: &mut [u8], b: u8) {
 }
 
 // The length of the next output; out is filled with the byte after it.
-pub(crate) fn next_output(out: &mut [u8]) -> usize
-    ensures { IsPrefixLen result out.new }
+pub(crate) fn next_output(input: &mut impl Read, out: &mut [u8]) -> io::Result<usize>
+    ensures { IfOk result (λ n. IsPrefixLen n out.new) }
 {
-    let n = cut(next(4), out.len());
-    let b = next(1);
+    let n = cut(next(input, 4)?, out.len());
+    let b = next(input, 1)?;
     fill(out, (b % 256) as u8);
-    n
+    Ok(n)
 }

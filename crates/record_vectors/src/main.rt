@@ -17,28 +17,34 @@ mod output;
 mod reads;
 mod writes;
 
+use std::io;
+use std::io::{BufReader, BufWriter, Read, Write};
+
 // Whether there was an item.
-fn item() -> bool {
-    let topic = input::next(1);
-    if topic == 1 {
-        reads::item();
-        return true;
+fn item(input: &mut impl Read, output: &mut impl Write) -> io::Result<bool> {
+    match input::next(input, 1)? {
+        1 => reads::item(input, output)?,
+        2 => writes::item(input, output)?,
+        3 => lines::item(input, output)?,
+        _ => return Ok(false),
     }
-    if topic == 2 {
-        writes::item();
-        return true;
-    }
-    if topic == 3 {
-        lines::item();
-        return true;
-    }
-    false
+    Ok(true)
 }
 
 // A proved loop has to end: the turns are more than any input has items.
-fn main() {
-    let mut turns = u64::MAX;
-    while turns > 0 && item() {
-        turns -= 1;
+fn run(input: &mut impl Read, output: &mut impl Write) -> io::Result<()> {
+    for _ in 0..u64::MAX {
+        if !item(input, output)? {
+            break;
+        }
     }
+    Ok(())
+}
+
+// A read or write that fails ends the run with an error, behind the answers before it.
+fn main(rt: HostRuntime) -> io::Result<()> {
+    let mut input = BufReader::new(rt.alloc(), rt.stdin())?;
+    let mut output = BufWriter::new(rt.alloc(), rt.stdout())?;
+    run(&mut input, &mut output)?;
+    output.flush()
 }

@@ -1,6 +1,8 @@
-// The words of a line on standard output, and the hash of an output.
+// The words of a line, and the hash of an output.
 use record::{Shape, Written};
 use refusal::Refusal;
+use std::io;
+use std::io::Write;
 
 fn xor(a: u32, b: u32) -> u32 {
     a ^ b
@@ -22,44 +24,47 @@ pub(crate) fn hash_of(s: &[u8]) -> u32 {
     hash
 }
 
-fn text(s: &[u8]) {
-    io::write_all(1, s);
+fn text(output: &mut impl Write, s: &[u8]) -> io::Result<()> {
+    output.write_all(s)
 }
 
-fn number(n: usize) {
-    text(b" ");
-    io::print_decimal(1, n as u64);
+fn number(output: &mut impl Write, n: usize) -> io::Result<()> {
+    write!(output, " {n}")
 }
 
-pub(crate) fn refused(r: Refusal) {
-    text(b"refused");
-    number(r.number as usize);
-    number(r.place);
+pub(crate) fn refused(output: &mut impl Write, r: Refusal) -> io::Result<()> {
+    text(output, b"refused")?;
+    number(output, r.number as usize)?;
+    number(output, r.place)
 }
 
-pub(crate) fn fit(shape: Shape) {
-    text(b"fit");
-    number(shape.channels as usize);
-    number(shape.rows as usize);
-    number(shape.stops as usize);
+pub(crate) fn fit(output: &mut impl Write, shape: Shape) -> io::Result<()> {
+    text(output, b"fit")?;
+    number(output, shape.channels as usize)?;
+    number(output, shape.rows as usize)?;
+    number(output, shape.stops as usize)
 }
 
-pub(crate) fn written(answer: Written, hash: u32) {
+pub(crate) fn written(output: &mut impl Write, answer: Written, hash: u32) -> io::Result<()> {
     match answer {
         Written::Whole(n) => {
-            text(b"written");
-            number(n);
+            text(output, b"written")?;
+            number(output, n)?;
         }
-        Written::Refused(r) => refused(r),
+        Written::Refused(r) => refused(output, r)?,
     }
-    number(hash as usize);
+    number(output, hash as usize)
 }
 
 // Whether what was compared is the same.
-pub(crate) fn same(yes: bool) {
-    if yes { text(b" same") } else { text(b" other") }
+pub(crate) fn same(output: &mut impl Write, yes: bool) -> io::Result<()> {
+    if yes {
+        text(output, b" same")
+    } else {
+        text(output, b" other")
+    }
 }
 
-pub(crate) fn end() {
-    text(b"\n");
+pub(crate) fn end(output: &mut impl Write) -> io::Result<()> {
+    text(output, b"\n")
 }

@@ -2,9 +2,11 @@
 use crate::compare::same_bytes;
 use crate::{content, input, output};
 use record::{Read, Shape, Written};
+use std::io;
+use std::io::Write;
 
 fn write_again(s: &[u8], shape: Shape, out: &mut [u8]) -> Written {
-    let mut codes = io::buffer();
+    let mut codes = input::byte_space();
     let code_count = content::codes(s, shape, &mut codes);
     let mut settings = input::half_space();
     let setting_count = content::settings(s, shape, &mut settings);
@@ -14,7 +16,7 @@ fn write_again(s: &[u8], shape: Shape, out: &mut [u8]) -> Written {
     let cell_count = content::cells(s, shape, &mut cells);
     let mut pasts = input::half_space();
     let past_count = content::pasts(s, shape, &mut pasts);
-    let mut causes = io::buffer();
+    let mut causes = input::byte_space();
     let cause_count = content::causes(s, shape, &mut causes);
     record::write_record(
         out,
@@ -37,24 +39,24 @@ fn same_again(s: &[u8], shape: Shape, out: &mut [u8]) -> bool {
 
 // The output has the record's length.
 fn comes_back(s: &[u8], shape: Shape) -> bool {
-    let mut out = io::large_buffer();
+    let mut out = input::large_space();
     let n = input::within(s.len(), &out);
     same_again(s, shape, &mut out[..n])
 }
 
-fn read(s: &[u8]) {
+fn read(output: &mut impl Write, s: &[u8]) -> io::Result<()> {
     match record::read_record(s) {
         Read::Fit(shape) => {
-            output::fit(shape);
-            output::same(comes_back(s, shape));
+            output::fit(output, shape)?;
+            output::same(output, comes_back(s, shape))?;
         }
-        Read::Refused(r) => output::refused(r),
+        Read::Refused(r) => output::refused(output, r)?,
     }
-    output::end();
+    output::end(output)
 }
 
-pub(crate) fn item() {
-    let mut s = io::large_buffer();
-    let n = input::next_run(4, &mut s);
-    read(&s[..n]);
+pub(crate) fn item(input: &mut impl io::Read, output: &mut impl Write) -> io::Result<()> {
+    let mut s = input::large_space();
+    let n = input::next_run(input, 4, &mut s)?;
+    read(output, &s[..n])
 }

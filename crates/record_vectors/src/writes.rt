@@ -2,6 +2,8 @@
 use crate::compare::{same_bytes, same_halves, same_words};
 use crate::{content, input, output};
 use record::{Read, Shape, Written};
+use std::io;
+use std::io::Write;
 
 fn same_heading(
     s: &[u8],
@@ -10,7 +12,7 @@ fn same_heading(
     settings: &[u16],
     saturation: &[u16],
 ) -> bool {
-    let mut found_codes = io::buffer();
+    let mut found_codes = input::byte_space();
     let code_count = content::codes(s, shape, &mut found_codes);
     let mut found_settings = input::half_space();
     let setting_count = content::settings(s, shape, &mut found_settings);
@@ -26,7 +28,7 @@ fn same_body(s: &[u8], shape: Shape, cells: &[u32], pasts: &[u16], causes: &[u8]
     let cell_count = content::cells(s, shape, &mut found_cells);
     let mut found_pasts = input::half_space();
     let past_count = content::pasts(s, shape, &mut found_pasts);
-    let mut found_causes = io::buffer();
+    let mut found_causes = input::byte_space();
     let cause_count = content::causes(s, shape, &mut found_causes);
     same_words(&found_cells[..cell_count], cells)
         & same_halves(&found_pasts[..past_count], pasts)
@@ -53,6 +55,7 @@ fn has_content(
 }
 
 fn write(
+    output: &mut impl Write,
     out: &mut [u8],
     codes: &[u8],
     settings: &[u16],
@@ -60,31 +63,37 @@ fn write(
     cells: &[u32],
     pasts: &[u16],
     causes: &[u8],
-) {
+) -> io::Result<()> {
     let answer = record::write_record(out, codes, settings, saturation, cells, pasts, causes);
-    output::written(answer, output::hash_of(out));
+    output::written(output, answer, output::hash_of(out))?;
     if let Written::Whole(n) = answer {
         let k = input::within(n, out);
-        output::same(has_content(&out[..k], codes, settings, saturation, cells, pasts, causes));
+        let yes = has_content(&out[..k], codes, settings, saturation, cells, pasts, causes);
+        output::same(output, yes)?;
     }
-    output::end();
+    output::end(output)
 }
 
 // The six runs, one after the other, and then the writer.
-fn write_next(out: &mut [u8]) {
-    let mut codes = io::buffer();
-    let code_count = input::next_run(2, &mut codes);
+fn write_next(
+    input: &mut impl io::Read,
+    output: &mut impl Write,
+    out: &mut [u8],
+) -> io::Result<()> {
+    let mut codes = input::byte_space();
+    let code_count = input::next_run(input, 2, &mut codes)?;
     let mut settings = input::half_space();
-    let setting_count = input::next_halves(&mut settings);
+    let setting_count = input::next_halves(input, &mut settings)?;
     let mut saturation = input::half_space();
-    let saturation_count = input::next_halves(&mut saturation);
+    let saturation_count = input::next_halves(input, &mut saturation)?;
     let mut cells = input::word_space();
-    let cell_count = input::next_words(&mut cells);
+    let cell_count = input::next_words(input, &mut cells)?;
     let mut pasts = input::half_space();
-    let past_count = input::next_halves(&mut pasts);
-    let mut causes = io::buffer();
-    let cause_count = input::next_run(2, &mut causes);
+    let past_count = input::next_halves(input, &mut pasts)?;
+    let mut causes = input::byte_space();
+    let cause_count = input::next_run(input, 2, &mut causes)?;
     write(
+        output,
         out,
         &codes[..code_count],
         &settings[..setting_count],
@@ -92,11 +101,11 @@ fn write_next(out: &mut [u8]) {
         &cells[..cell_count],
         &pasts[..past_count],
         &causes[..cause_count],
-    );
+    )
 }
 
-pub(crate) fn item() {
-    let mut out = io::large_buffer();
-    let n = input::next_output(&mut out);
-    write_next(&mut out[..n]);
+pub(crate) fn item(input: &mut impl io::Read, output: &mut impl Write) -> io::Result<()> {
+    let mut out = input::large_space();
+    let n = input::next_output(input, &mut out)?;
+    write_next(input, output, &mut out[..n])
 }
