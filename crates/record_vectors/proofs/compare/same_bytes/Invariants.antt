@@ -1,6 +1,5 @@
 -- What the loop of `record_vectors::compare::same_bytes` keeps, and what falls. Assumes nothing.
 use Prim.Native.Nat.{◌-◌, ◌≤◌}
-use native.Mathlib.Omega.{arith}
 use lib.ListN.{length}
 use Rattle.record_vectors.proofs.compare.same_bytes.Given as goal
 

@@ -1,8 +1,7 @@
 -- What the loop of `record_vectors::input::fill` keeps, and what falls. Assumes nothing.
 use Prim.Native.Nat.{◌-◌, ◌≤◌}
-use mathlib.Core.Path.{◌≡◌, refl}
-use native.Mathlib.Omega.{arith}
-use lib.ListN.{length, length-set}
+use mathlib.Core.Path.{◌≡◌}
+use lib.ListN.{length}
 use Rattle.record_vectors.proofs.input.fill.Given as goal
 
 abbrev pub invariant-loop-i : goal.invariant-loop-i

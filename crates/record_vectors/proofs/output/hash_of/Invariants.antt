@@ -1,7 +1,5 @@
 -- What the loop of `record_vectors::output::hash_of` keeps, and what falls. Assumes nothing.
 use Prim.Native.Nat.{◌-◌, ◌≤◌}
-use native.Mathlib.Omega.{arith}
-use borrow.Author.Rules.{rules}
 use lib.ListN.{length}
 use Rattle.record_vectors.proofs.output.hash_of.Given as goal
 
