@@ -16,14 +16,13 @@ function no_comment(line) {
     return line
 }
 
-# module_of PATH: CRATE/FILE of 'Rattle·CRATE.specs.FILE' or, in the crate itself, 'Rattle·CRATE·specs.specs.FILE'.
+# module_of PATH: CRATE/FILE of 'Rattle.CRATE.specs.FILE'.
 function module_of(path,    name) {
-    if (path !~ /^Rattle·/) return ""
-    sub(/^Rattle·/, "", path)
+    if (path !~ /^Rattle\.[a-z0-9_]+\.specs\../) return ""
+    sub(/^Rattle\./, "", path)
     name = path
-    sub(/(·specs)?\.specs\..*/, "", name)
-    if (name == path) return ""
-    sub(/^.*\.specs\./, "", path)
+    sub(/\..*/, "", name)
+    sub(/^[^.]*\.specs\./, "", path)
     gsub(/\./, "/", path)
     return name "/" path
 }
@@ -53,13 +52,13 @@ function take_import(statement,    path, list, n, i, name, alias) {
     }
 }
 
-# behind FILE WORD: the definition that a word stands for in a file, or nothing.
-function behind(from, word,    parts) {
-    if (word ~ /^\./) return ""
-    sub(/\.+$/, "", word)
-    if ((from ":" word) in text_of) return from ":" word
-    if ((from, word) in import) word = import[from, word]
-    else if (split(word, parts, ".") == 2 && (from, parts[1]) in inside) word = inside[from, parts[1]] ":" parts[2]
+# behind FILE WORD: the definition that a word stands for in a file, or nothing. Behind a dot stands a field, or a name of the module in
+# front.
+function behind(from, word,    parts, n) {
+    n = split(word, parts, ".")
+    if (n > 1 && (from, parts[1]) in inside) word = inside[from, parts[1]] ":" parts[2]
+    else if ((from ":" parts[1]) in text_of) return from ":" parts[1]
+    else if ((from, parts[1]) in import) word = import[from, parts[1]]
     else return ""
     return word in text_of ? word : ""
 }
@@ -94,7 +93,7 @@ function header_end(text,    i, n, c, depth, clause) {
     for (i = 1; i <= n; i++) {
         c = substr(text, i, 1)
         if (c == "{") {
-            if (!depth && substr(text, 1, i - 1) !~ /(requires|ensures|decreases|measure|ghost)( [a-z_]+)?[ \n]*$/) return i
+            if (!depth && substr(text, 1, i - 1) !~ /(requires|ensures)\*?( [a-z_0-9]+)?[ \n]*$|ghost [a-z_0-9]+:[ \n]*$/) return i
             depth++
         } else if (c == "}") depth--
         else if (c == ";" && !depth && text !~ /\[[^\]]*;/) return i
@@ -104,7 +103,7 @@ function header_end(text,    i, n, c, depth, clause) {
 
 # ensured HEADER: what stands in the braces of its ensures clauses.
 function ensured(text,    out, i, n, c, depth) {
-    while (match(text, /ensures( [a-z_]+)? ?\{/)) {
+    while (match(text, /ensures\*?( [a-z_0-9]+)? ?\{/)) {
         text = substr(text, RSTART + RLENGTH)
         n = length(text)
         depth = 1
