@@ -1,21 +1,64 @@
-# Reads the compiler's listing of a crate, a token a line, for tests/widths: follows the calls from the functions in -v roots, and tells
-# each number of more than -v most bits on that path that is no index and no refusal's place. Printed: 'path FUNCTION' for each function of
-# the path, and 'wide FUNCTION: WHAT'; nothing where there is no listing.
+# Reads the code of functions as rattle writes it out, a token a line, for tests/widths: follows the calls from the functions in -v roots, and
+# tells each number of more than -v most bits on that path that is no index and no refusal's place. Printed: 'path FUNCTION' for each function
+# of the path, and 'wide FUNCTION: WHAT'; nothing where there is no code.
 # A wider number may have a literal added, taken off or multiplied with it, be an index or a refusal's place, or go to a function of the
 # path, which is looked at like the others: so no count, flag or branch comes from it. A form that is not named here is told as well.
 
-# The tokens become a tree: kids[n] of the node n, kid[n, 1] its head, or text[n].
 { token[++tokens] = $0 }
 
-function parse(    made) {
-    made = ++nodes
-    if (token[++at] != "(") {
-        text[made] = token[at]
-        return made
+# plain NAME: without the module of the kit in front; a function where the name is its symbol.
+function plain(name,    alias) {
+    if (name in made) return name
+    alias = name
+    sub(/\..*/, "", alias)
+    if (!(alias in used)) return name
+    sub(/^[^.]*\./, "", name)
+    if (used[alias] !~ /^Rattle\./) return name
+    alias = used[alias]
+    if (name != "name" || alias !~ /^Rattle\.[a-z0-9_]+\.proofs\..*\.Symbol$/) return name
+    sub(/^Rattle\./, "", alias)
+    sub(/\.proofs\./, ".", alias)
+    sub(/\.Symbol$/, "", alias)
+    gsub(/\./, "::", alias)
+    return alias
+}
+
+# A term becomes a tree: kids[n] of the node n, kid[n, 1] its head, or text[n]; of a record, field[n, NAME]. Round brackets hold one term, or
+# the entries of a tuple.
+function part(    n, name) {
+    if (token[at] == "(") {
+        n = ++nodes
+        text[kid[n, kids[n] = 1] = ++nodes] = "tuple"
+        while (at < tokens && token[at] != ")") {
+            at++
+            if (token[at] != ")") kid[n, ++kids[n]] = term()
+        }
+        at++
+        return kids[n] == 2 ? kid[n, 2] : n
     }
-    while (at < tokens && token[at + 1] != ")") kid[made, ++kids[made]] = parse()
-    at++
-    return made
+    if (token[at] == "record" && token[at + 1] == "{") {
+        text[n = ++nodes] = "record"
+        for (at += 2; at < tokens && token[at] != "}"; at++) {
+            name = token[at]
+            at += 2
+            field[n, name] = term()
+        }
+        at++
+        return n
+    }
+    name = plain(token[at++])
+    if (name in made) return made[name]
+    text[n = ++nodes] = name
+    return n
+}
+
+function term(    n, first) {
+    first = part()
+    if (token[at] ~ /^([),};]|abbrev|module|use)$/ || at > tokens) return first
+    n = ++nodes
+    kid[n, kids[n] = 1] = first
+    while (at <= tokens && token[at] !~ /^([),};]|abbrev|module|use)$/) kid[n, ++kids[n]] = part()
+    return n
 }
 
 function head(n) {
@@ -29,12 +72,30 @@ function told(what) {
 
 # width TYPE: the bits of a number's type; 0 of any other.
 function width(t) {
-    return head(t) ~ /^ty(Int|Float)$/ ? text[kid[t, 2]] + 0 : 0
+    return head(t) ~ /^ty_(int|float)$/ ? bits(kid[t, 2]) : 0
+}
+
+# bits NAME: of a width, as w32 or binary32.
+function bits(n,    name) {
+    name = text[n]
+    sub(/^(w|binary)/, "", name)
+    return name + 0
+}
+
+# is_list NODE: an entry, and behind it the rest.
+function is_list(n) {
+    return head(n) ~ /^(◌∷◌|tcons|ttcons)$/
+}
+
+# symbol BYTES: the name that they spell.
+function symbol(list,    name) {
+    for (; is_list(list); list = kid[list, 3]) name = name sprintf("%c", text[kid[list, 2]] + 0)
+    return name
 }
 
 # type_of TYPE: a named type's name, else what it is.
 function type_of(t) {
-    return head(t) == "tyNamed" ? text[kid[kid[t, 2], 2]] : head(t)
+    return head(t) == "ty_named" ? symbol(kid[kid[t, 2], 2]) : head(t)
 }
 
 # Every number in a type, an array's entries or a named type's fields.
@@ -43,21 +104,21 @@ function look_type(t, what,    i) {
     for (i = 2; i <= kids[t]; i++) look_type(kid[t, i], what)
 }
 
-# The named types of a function, 'lcons (pair NAME FIELDS-OR-VARIANTS) REST'. A refusal's place is wider.
+# The named types of a function: a list of (NAME, KINDS, fields or variants). A refusal's place is wider.
 function each_type(list,    named) {
-    for (; head(list) == "lcons"; list = kid[list, 3]) {
-        named = text[kid[kid[list, 2], 2]]
-        made_of[named] = kid[kid[kid[list, 2], 3], 2]
-        if (named != refusal) look_type(kid[kid[list, 2], 3], named)
+    for (; is_list(list); list = kid[list, 3]) {
+        named = symbol(kid[kid[list, 2], 2])
+        made_of[named] = kid[kid[kid[list, 2], 4], 2]
+        if (named != refusal) look_type(kid[kid[list, 2], 4], named)
     }
 }
 
 # The types of its locals: one that is a whole number may be wider, and is_wide tells it where it is used.
 function each_local(list,    i) {
     delete local
-    for (i = 0; head(list) == "lcons"; list = kid[list, 3]) {
+    for (i = 0; is_list(list); list = kid[list, 3]) {
         local[i] = kid[kid[list, 2], 2]
-        if (head(local[i]) != "tyInt") look_type(local[i], "a local")
+        if (head(local[i]) != "ty_int") look_type(local[i], "a local")
         i++
     }
 }
@@ -72,7 +133,7 @@ function nth(list, i) {
 function type_at(place,    t, way, step, fields) {
     t = local[text[kid[place, 2]]]
     fields = 0
-    for (way = kid[place, 3]; head(way) == "lcons"; way = kid[way, 3]) {
+    for (way = kid[place, 3]; is_list(way); way = kid[way, 3]) {
         step = kid[way, 2]
         if (head(step) == "deref") t = kid[step, 2]
         else if (head(step) == "variant") fields = nth(made_of[type_of(t)], text[kid[step, 2]])
@@ -88,10 +149,10 @@ function type_at(place,    t, way, step, fields) {
 
 # is_wide OPERAND: a literal or what is at a place.
 function is_wide(o,    place) {
-    if (head(o) == "int" || head(o) == "float") return text[kid[o, 2]] + 0 > most
-    if (head(o) ~ /^(true|false|unit)$/) return 0
+    if (literal(o) || head(o) == "float") return bits(kid[o, 2]) > most
+    if (head(o) ~ /^opd_(true|false|unit)$/) return 0
     place = head(o) == "place" ? o : kid[o, 2]
-    if (head(o) ~ /^(copy|move|place)$/ && head(place) == "place") return width(type_at(place)) > most
+    if (head(o) ~ /^(copy|place)$/ && head(place) == "place") return width(type_at(place)) > most
     told("an operand " head(o) ", which this check does not know")
     return 0
 }
@@ -101,7 +162,7 @@ function none_wide(o, what) {
 }
 
 function literal(o) {
-    return head(o) == "int"
+    return head(o) ~ /^int(_neg|_big)?$/
 }
 
 function look_op2(op, a, b,    name_of) {
@@ -116,30 +177,30 @@ function look_op2(op, a, b,    name_of) {
 }
 
 function look_value(v, to,    list) {
-    if (head(v) == "rvOpd") {
+    if (head(v) == "rv_opd") {
         if (is_wide(kid[v, 2]) && !is_wide(to)) told("a wider number kept as another")
     } else if (head(v) == "op1") {
         none_wide(kid[v, 3], head(kid[v, 2]) " of a wider number")
-        if (head(kid[v, 2]) !~ /^(cast|not|floatFromBits|floatToBits)$/) told("an operation " head(kid[v, 2]) ", which this check does not know")
+        if (head(kid[v, 2]) !~ /^(cast|bit_not|float_from_bits|float_to_bits)$/) told("an operation " head(kid[v, 2]) ", which this check does not know")
     } else if (head(v) == "op2") {
         look_op2(kid[v, 2], kid[v, 3], kid[v, 4])
     } else if (head(v) == "aggregate") {
-        for (list = kid[v, 2]; head(list) == "lcons"; list = kid[list, 3])
+        for (list = kid[v, 2]; is_list(list); list = kid[list, 3])
             if (type_of(type_at(to)) != refusal) none_wide(kid[list, 2], "a wider number in a value that is no refusal")
-    } else if (head(v) == "addrOf") {
+    } else if (head(v) == "addr_of") {
         none_wide(kid[v, 2], "the address of a wider number")
     } else told("a value " head(v) ", which this check does not know")
 }
 
 function look_call(s,    list, called) {
-    called = text[kid[kid[kid[s, 2], 2], 2]]
-    if (head(kid[s, 2]) != "direct") told("a call " head(kid[s, 2]) ", which this check does not know")
-    else if (!(called in body)) told("a call of " called ", which the listing does not have")
+    called = text[kid[s, 2]]
+    if (called !~ /::/) told("a call " head(kid[s, 2]) ", which this check does not know")
+    else if (!(called in item)) told("a call of " called ", whose code was not written out")
     else if (!(called in reached)) {
         reached[called] = 1
         path[++reaching] = called
     }
-    for (list = kid[s, 3]; head(list) == "lcons"; list = kid[list, 3]) is_wide(kid[list, 2])
+    for (list = kid[s, 3]; is_list(list); list = kid[list, 3]) is_wide(kid[list, 2])
 }
 
 function look(s,    form) {
@@ -151,7 +212,7 @@ function look(s,    form) {
         look_value(kid[s, 3], kid[s, 2])
     } else if (form == "call") {
         look_call(s)
-    } else if (form == "if") {
+    } else if (form == "cond") {
         none_wide(kid[s, 2], "a branch on a wider number")
         look(kid[s, 3])
         look(kid[s, 4])
@@ -161,37 +222,65 @@ function look(s,    form) {
     } else if (form == "arm") {
         look(kid[s, 3])
         look(kid[s, 4])
-    } else if (form !~ /^(return|skip|noDefault)$/) told("a statement " form ", which this check does not know")
+    } else if (form == "lend_static") {
+        look_type(kid[s, 3], "a constant")
+        look_type(kid[s, 4], "a constant")
+    } else if (form !~ /^(return|skip|no_default)$/) told("a statement " form ", which this check does not know")
 }
 
-# The functions of the listing, 'lcons (fn-def NAME ITEM TYPES?) REST'; an item has its locals and its statements last.
-function functions(list,    f) {
-    for (; head(list) == "lcons"; list = kid[list, 3]) {
-        f = kid[list, 2]
-        item[text[kid[f, 2]]] = kid[f, 3]
-        types[text[kid[f, 2]]] = kids[f] > 3 ? kid[f, 4] : 0
-        body[text[kid[f, 2]]] = 1
+# The modules of the listing, 'module FUNCTION' and what rattle wrote into it: use lines, and definitions 'abbrev pub NAME : TYPE NAME = TERM', the
+# last of which that counts is `function`: a record, or 'spell_fn TABLE RECORD', with the table of its named types.
+function modules(    name) {
+    for (at = 1; at <= tokens;) {
+        if (token[at] == "module") {
+            name = token[at + 1]
+            at += 2
+            split("", used)
+            split("", made)
+        } else if (token[at] == "use") {
+            if (token[at + 2] == "as") {
+                used[token[at + 3]] = token[at + 1]
+                at += 4
+            } else {
+                match(token[at + 1], /[^.]*$/)
+                used[substr(token[at + 1], RSTART)] = token[at + 1]
+                at += 2
+            }
+        } else if (token[at] == "abbrev") {
+            defined = token[at + 2]
+            while (at < tokens && token[at] != "=") at++
+            at++
+            made[defined] = term()
+            if (defined == "function") {
+                item[name] = made[defined]
+                functions++
+            }
+        } else {
+            print "wide " name ": the text " token[at] ", which this check does not know"
+            at++
+        }
     }
 }
 
 END {
-    if (token[1] != "program") exit
-    at = 1
-    functions(parse())
-    refusal = "\"refusal::Refusal\""
+    modules()
+    if (!functions) exit
+    refusal = "refusal::Refusal"
     n = split(roots, path, " ")
-    for (i = 1; i <= n; i++) {
-        path[i] = "\"" path[i] "\""
-        reached[path[i]] = 1
-    }
+    for (i = 1; i <= n; i++) reached[path[i]] = 1
     reaching = n
     for (i = 1; i <= reaching; i++) {
         name = path[i]
         print "path " name
-        if (!(name in body)) { told("the listing does not have it"); continue }
-        last = kids[item[name]]
-        if (types[name]) each_type(types[name])
-        each_local(kid[item[name], last - 1])
-        look(kid[item[name], last])
+        if (!(name in item)) { told("its code was not written out"); continue }
+        it = item[name]
+        split("", made_of)
+        if (head(it) == "spell_fn") {
+            each_type(kid[it, 2])
+            it = kid[it, 3]
+        }
+        if (head(it) != "record") { told("a function " head(it) ", which this check does not know"); continue }
+        each_local(field[it, "locals"])
+        look(field[it, "body"])
     }
 }
