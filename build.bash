@@ -25,7 +25,7 @@ build_judge() {
 # programs: the crates with a main, as crates.txt lists them.
 programs() {
     local crate
-    for crate in $(sed -n 's/^\([a-z0-9_]*\):.*/\1/p' crates.txt); do
+    sed -n 's/^\([a-z0-9_]*\):.*/\1/p' crates.txt | while read -r crate; do
         [ ! -e "crates/$crate/src/main.rt" ] || echo "$crate"
     done
 }

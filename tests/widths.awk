@@ -28,7 +28,9 @@ function plain(name,    alias) {
 function part(    n, name) {
     if (token[at] == "(") {
         n = ++nodes
-        text[kid[n, kids[n] = 1] = ++nodes] = "tuple"
+        kids[n] = 1
+        kid[n, 1] = ++nodes
+        text[kid[n, 1]] = "tuple"
         while (at < tokens && token[at] != ")") {
             at++
             if (token[at] != ")") kid[n, ++kids[n]] = term()
@@ -56,7 +58,8 @@ function term(    n, first) {
     first = part()
     if (token[at] ~ /^([),};]|abbrev|module|use)$/ || at > tokens) return first
     n = ++nodes
-    kid[n, kids[n] = 1] = first
+    kids[n] = 1
+    kid[n, 1] = first
     while (at <= tokens && token[at] !~ /^([),};]|abbrev|module|use)$/) kid[n, ++kids[n]] = part()
     return n
 }
@@ -228,8 +231,8 @@ function look(s,    form) {
     } else if (form !~ /^(return|skip|no_default)$/) told("a statement " form ", which this check does not know")
 }
 
-# The modules of the listing, 'module FUNCTION' and what rattle wrote into it: use lines, and definitions 'abbrev pub NAME : TYPE NAME = TERM', the
-# last of which that counts is `function`: a record, or 'spell_fn TABLE RECORD', with the table of its named types.
+# The modules of the listing, 'module FUNCTION' and what rattle wrote into it: use lines, and definitions 'abbrev pub NAME : TYPE NAME = TERM'.
+# The one that counts is `function`: a record, or 'spell_fn TABLE RECORD', with the table of its named types.
 function modules(    name) {
     for (at = 1; at <= tokens;) {
         if (token[at] == "module") {
