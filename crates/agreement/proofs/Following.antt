@@ -13,7 +13,7 @@ use Rattle.loaded_test.specs.Steps.{begin, stop}
 use Rattle.loaded_test.specs.declared.Next.{Next}
 use Rattle.loaded_test.specs.declared.Next.TheVariants.{GoesOn, Rests, RestEnded, ModeTwo, Ends}
 use Rattle.loaded_test.specs.declared.Start.{Start as TestStart}
-use Rattle.loaded_test.specs.declared.Start.TheVariants as test-start
+use Rattle.loaded_test.specs.declared.Start.TheVariants as test_start
 use Rattle.loaded_test.specs.declared.Stepped.{Stepped}
 use Rattle.loaded_test.specs.declared.Test.{Test}
 use Rattle.loaded_test.specs.declared.Verdict.{Verdict}
@@ -30,8 +30,8 @@ admitted_start :
     (start_judged (first_refusal (fitness x) (lock_ruling lock)) b e t).answer ≡ answer.Accepted →
     (start_judged (first_refusal (fitness x) (lock_ruling lock)) b e t).bench ≡ with_test b.desk e t
 unfolding lock_ruling
-admitted_start (test-start.Refused r) lock b e t h = let z : ◌≡◌ {A = ℕ} 0 1 = cc in absurd (omega arith)
-admitted_start test-start.Begins lock b e t h =
+admitted_start (test_start.Refused r) lock b e t h = let z : ◌≡◌ {A = ℕ} 0 1 = cc in absurd (omega arith)
+admitted_start test_start.Begins lock b e t h =
     on_pick
     (λ y. (start_judged y b e t).answer ≡ answer.Accepted → (start_judged y b e t).bench ≡ with_test b.desk e t)
     (free lock) _ _

@@ -22,7 +22,7 @@ use Rattle.loaded_test.specs.declared.Next.{Next}
 use Rattle.loaded_test.specs.declared.Next.TheVariants.{GoesOn, Rests, RestEnded, ModeTwo, Ends}
 use Rattle.loaded_test.specs.declared.Stage.{Stage}
 use Rattle.loaded_test.specs.declared.Stage.TheVariants.{NotBegun, Settling, Measuring, Rest, Ended}
-use Rattle.loaded_test.specs.declared.Start.TheVariants as test-start
+use Rattle.loaded_test.specs.declared.Start.TheVariants as test_start
 use Rattle.loaded_test.specs.declared.Stepped.{Stepped}
 use Rattle.loaded_test.specs.declared.Test.{Test}
 use Rattle.loaded_test.specs.declared.Verdict.{Verdict}
@@ -33,7 +33,7 @@ use Rattle.loaded_test.proofs.Driven.{second_same, stop_same}
 use Rattle.locks.specs.Events.{clock_after}
 use Rattle.locks.specs.declared.Event.{Event}
 use Rattle.bench.specs.Demand.{bench_after, bench_answers}
-use Rattle.bench.specs.Stepping.{with_test, second_taken, test_taken, running as testRuns, step}
+use Rattle.bench.specs.Stepping.{with_test, second_taken, test_taken, running as test_runs, step}
 use Rattle.bench.specs.declared.Bench.{Bench}
 use Rattle.bench.specs.declared.Handled.{Handled}
 use Rattle.rejudging.specs.Items.{Item, a_row, a_stop, items_of}
@@ -61,7 +61,7 @@ pub record Tracks (b : Bench) (last : ℕ) (automatic : Bool) (x : Test) : Type 
   pub test : b.test ≡ x
 
 -- Its test runs where x does.
-runs_too : (b : Bench) (x : Test) → b.test ≡ x → is_running x.progress.stage ≡ true → testRuns b ≡ true
+runs_too : (b : Bench) (x : Test) → b.test ≡ x → is_running x.progress.stage ≡ true → test_runs b ≡ true
 runs_too b x e h = ap (λ y. is_running y.progress.stage) e ∙ h
 
 -- Before a verdict a test is open.
@@ -150,7 +150,7 @@ module _ (s : List ℕ) (shape : Shape) (automatic : Bool) where
       record {
         accepted = rw h c.accepted;
         verdicts = rw h c.verdicts;
-        running = λ o. subst (λ (z : Handled). testRuns (bench_after z.bench es) ≡ true) (sym h) (c.running o);
+        running = λ o. subst (λ (z : Handled). test_runs (bench_after z.bench es) ≡ true) (sym h) (c.running o);
         sheet = λ o. subst (λ (z : Handled). sheet_of (bench_after z.bench es).test ≡ sheet) (sym h) (c.sheet o);
       }
 
@@ -253,19 +253,19 @@ module _ (s : List ℕ) (shape : Shape) (automatic : Bool) where
       (λ y q d u n. follows l es ev.0 d y sheet ev.3 c.1 u n q))
 
 -- A test that began runs.
-begun_open : (x : Checked) → (begun_by x).answer ≡ test-start.Begins → is_running (begun_by x).test.progress.stage ≡ true
+begun_open : (x : Checked) → (begun_by x).answer ≡ test_start.Begins → is_running (begun_by x).test.progress.stage ≡ true
 unfolding begun_by is_running
 begun_open (checked.Fit v) h = refl
 begun_open (checked.Refused r) h = let z : ◌≡◌ {A = ℕ} 0 1 = cc in absurd (omega arith)
 
-begins_open : (settings : Settings) (p : ℕ) → (begin settings p).answer ≡ test-start.Begins → is_running (begin settings p).test.progress.stage ≡ true
+begins_open : (settings : Settings) (p : ℕ) → (begin settings p).answer ≡ test_start.Begins → is_running (begin settings p).test.progress.stage ≡ true
 unfolding begin
 begins_open settings p h = begun_open (checked_of settings p) h
 
 -- Its gearbox is that of its settings.
 begun_gearbox :
     (settings : Settings) (p : ℕ) →
-    (begin settings p).answer ≡ test-start.Begins →
+    (begin settings p).answer ≡ test_start.Begins →
     (begin settings p).test.vehicle.automatic ≡ automatic settings
 unfolding begin begun_by checked_of vehicle_of pick
 begun_gearbox settings p = go (eqb (unfit_place settings) 0) (saturation_fit p)
@@ -273,7 +273,7 @@ begun_gearbox settings p = go (eqb (unfit_place settings) 0) (saturation_fit p)
     go :
         (a b : Bool) →
         (begun_by (pick a (pick b (checked.Fit (vehicle_of settings p)) (checked.Refused (saturation_unfit 0))) (checked.Refused (setting_unfit (unfit_place settings))))).answer
-        ≡ test-start.Begins →
+        ≡ test_start.Begins →
         (begun_by (pick a (pick b (checked.Fit (vehicle_of settings p)) (checked.Refused (saturation_unfit 0))) (checked.Refused (setting_unfit (unfit_place settings))))).test.vehicle.automatic
         ≡ automatic settings
     go true true h = refl

@@ -11,7 +11,7 @@ use Rattle.loaded_test.specs.declared.Word.TheVariants as word
 use Rattle.locks.specs.declared.Event.{Event}
 use Rattle.locks.specs.declared.Event.TheVariants.{Start, Second, Stop}
 use Rattle.bench.specs.Demand.{bench_after, bench_answers}
-use Rattle.bench.specs.Stepping.{running as testRuns, step}
+use Rattle.bench.specs.Stepping.{running as test_runs, step}
 use Rattle.bench.specs.declared.Answer.{Answer}
 use Rattle.bench.specs.declared.Answer.TheVariants as answer
 use Rattle.bench.specs.declared.Bench.{Bench}
@@ -69,7 +69,7 @@ pub record Agrees (b : Bench) (es : List Event) (x : Sheet) : Type 0 where
   -- the sheet's verdict is the only one that was answered, and none where the sheet is open
   pub verdicts : verdicts_in (bench_answers b es) ≡ verdict_shown x.word x
   -- where the sheet is open, a test runs, and the sheet is that test's: mode, t, counts, averages and engine speed
-  pub running : x.word ≡ shown.Open → testRuns (bench_after b es) ≡ true
+  pub running : x.word ≡ shown.Open → test_runs (bench_after b es) ≡ true
   pub sheet : x.word ≡ shown.Open → sheet_of (bench_after b es).test ≡ x
 
 -- For every list of bytes that is read, every bench that admits a start with its settings and p, and its rows and stops as events.

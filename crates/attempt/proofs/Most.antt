@@ -41,21 +41,21 @@ watched_most most out k seconds ready row all =
     (λ e. omega arith)
 
 one_most :
-    (out isReady : Bool) (k : SettlingCounts) →
-    k.seconds ≤ 24 → k.ready ≤ 10 → k.row ≤ 1 → k.all ≤ 4 → Settled 25 (settled_one out (ready_counted isReady k))
+    (out is_ready : Bool) (k : SettlingCounts) →
+    k.seconds ≤ 24 → k.ready ≤ 10 → k.row ≤ 1 → k.all ≤ 4 → Settled 25 (settled_one out (ready_counted is_ready k))
 unfolding settled_one
-one_most out isReady k seconds ready row all =
-    let g : in_row isReady k.ready ≤ 11 = row_most 10 isReady _ ready in
+one_most out is_ready k seconds ready row all =
+    let g : in_row is_ready k.ready ≤ 11 = row_most 10 is_ready _ ready in
     on_pick (Settled 25) (eqb k.seconds 0 && out) _ _
     (λ e. omega arith)
-    (λ e. watched_most 25 out (grown (ready_counted isReady k)) (omega arith) g row all)
+    (λ e. watched_most 25 out (grown (ready_counted is_ready k)) (omega arith) g row all)
 
 two_most :
-    (near isReady : Bool) (k : SettlingCounts) →
-    k.seconds ≤ 14 → k.ready ≤ 10 → k.row ≤ 1 → k.all ≤ 4 → Settled 15 (settled_two near (ready_counted isReady k))
+    (near is_ready : Bool) (k : SettlingCounts) →
+    k.seconds ≤ 14 → k.ready ≤ 10 → k.row ≤ 1 → k.all ≤ 4 → Settled 15 (settled_two near (ready_counted is_ready k))
 unfolding settled_two
-two_most near isReady k seconds ready row all =
-    let g : in_row isReady k.ready ≤ 11 = row_most 10 isReady _ ready in
+two_most near is_ready k seconds ready row all =
+    let g : in_row is_ready k.ready ≤ 11 = row_most 10 is_ready _ ready in
     on_pick (Settled 15) (eqb k.seconds 0 && not near) _ _ (λ e. omega arith) (λ e. omega arith)
 
 -- n is at most 25 after a second of settling in mode 1, at most 15 in mode 2.

@@ -15,9 +15,9 @@ no_settling = record { seconds = 0; ready = 0; row = 0; all = 0 }
 
 -- "g counts ready seconds in a row." It is read in settling alone, and counted there alone.
 abbrev pub ready_counted : Bool → SettlingCounts → SettlingCounts
-ready_counted isReady k = record {
+ready_counted is_ready k = record {
   seconds = k.seconds;
-  ready = in_row isReady k.ready;
+  ready = in_row is_ready k.ready;
   row = k.row;
   all = k.all;
 }

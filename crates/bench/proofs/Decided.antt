@@ -16,7 +16,7 @@ use Rattle.loaded_test.specs.declared.Did.{Did}
 use Rattle.loaded_test.specs.declared.Next.{Next}
 use Rattle.loaded_test.specs.declared.Next.TheVariants.{GoesOn, Rests, RestEnded, ModeTwo, Ends}
 use Rattle.loaded_test.specs.declared.Answer.{Answer as TestAnswer}
-use Rattle.loaded_test.specs.declared.Answer.TheVariants as test-answer
+use Rattle.loaded_test.specs.declared.Answer.TheVariants as test_answer
 use Rattle.loaded_test.specs.declared.Test.{Test}
 use Rattle.loaded_test.specs.Log.{Input, step}
 use Rattle.bench.specs.declared.Answer.TheVariants as answer
@@ -133,10 +133,10 @@ next_verdict (Ends y) x h = cc
 told_verdict :
     (a : TestAnswer) (x : Verdict) →
     verdict_told a ≡ some x →
-    (did : Did) × (a ≡ test-answer.Told did (Ends x))
+    (did : Did) × (a ≡ test_answer.Told did (Ends x))
 unfolding verdict_told
-told_verdict (test-answer.Told did next) x h = (did, ap (test-answer.Told did) (next_verdict next x h))
-told_verdict (test-answer.Refused r) x h = let z : ◌≡◌ {A = ℕ} 0 1 = cc in absurd (omega arith)
+told_verdict (test_answer.Told did next) x h = (did, ap (test_answer.Told did) (next_verdict next x h))
+told_verdict (test_answer.Refused r) x h = let z : ◌≡◌ {A = ℕ} 0 1 = cc in absurd (omega arith)
 
 ended_verdict : (v : Option Verdict) (t : Test) → (ended_by v t).verdict ≡ v
 unfolding ended_by

@@ -15,7 +15,7 @@ use Rattle.vehicle.specs.Checked.{vehicle_of}
 use Rattle.loaded_test.specs.declared.Verdict.{Verdict}
 use Rattle.loaded_test.specs.declared.Did.{Did}
 use Rattle.loaded_test.specs.declared.Next.TheVariants.{Ends}
-use Rattle.loaded_test.specs.declared.Answer.TheVariants as test-answer
+use Rattle.loaded_test.specs.declared.Answer.TheVariants as test_answer
 use Rattle.loaded_test.specs.declared.Test.{Test}
 use Rattle.loaded_test.specs.Log.{Input, a_second, a_stop, Entry, step, replay, logged, log_of}
 use Rattle.loaded_test.specs.Claim.{Measures, more as measuresMore, Earned, PassClaim}
@@ -78,7 +78,7 @@ pub earned_pass :
     (l : List Accepted) (e : Event) (test : Test) (i : Input) (did : Did) (t passing failing : ℕ) →
     Follows l test →
     input_of (automatic_in l) e ≡ some i →
-    (step test i).answer ≡ test-answer.Told did (Ends (pass t passing failing)) →
+    (step test i).answer ≡ test_answer.Told did (Ends (pass t passing failing)) →
     PassEarned l e t passing failing
 unfolding log_of logged
 earned_pass l e test i did t passing failing f given told = record {
@@ -102,8 +102,8 @@ earned_pass l e test i did t passing failing f given told = record {
     entry : Entry
     entry = record { input = i; did = did; next = Ends (pass t passing failing) }
 
-    told' : (step (replay v (inputs_since l)) i).answer ≡ test-answer.Told did (Ends (pass t passing failing))
-    told' = subst (λ y. (step y i).answer ≡ test-answer.Told did (Ends (pass t passing failing))) f.replayed told
+    told' : (step (replay v (inputs_since l)) i).answer ≡ test_answer.Told did (Ends (pass t passing failing))
+    told' = subst (λ y. (step y i).answer ≡ test_answer.Told did (Ends (pass t passing failing))) f.replayed told
 
     newest : log_of v (i ∷ inputs_since l) ≡ entry ∷ log_of v (inputs_since l)
     newest = rw told'

@@ -13,7 +13,7 @@ use Rattle.loaded_test.specs.declared.Verdict.{Verdict}
 use Rattle.loaded_test.specs.declared.Next.{Next}
 use Rattle.loaded_test.specs.declared.Next.TheVariants.{GoesOn, Rests, RestEnded, ModeTwo, Ends}
 use Rattle.loaded_test.specs.declared.Answer.{Answer as TestAnswer}
-use Rattle.loaded_test.specs.declared.Answer.TheVariants as test-answer
+use Rattle.loaded_test.specs.declared.Answer.TheVariants as test_answer
 use Rattle.loaded_test.specs.declared.Test.{Test}
 use Rattle.loaded_test.specs.Steps.{begin, second, stop}
 use Rattle.locks.specs.declared.Event.{Event}
@@ -46,8 +46,8 @@ module _ (b : Bench) (e : Event) where
   followed_back (Ends x) t r h = absurd (judged_not _ r h)
 
   answered_back : (x : TestAnswer) (t : Test) → BackIfRefused b (answered x b e t)
-  answered_back (test-answer.Told did next) t = followed_back next t
-  answered_back (test-answer.Refused y) t = λ r h. refl
+  answered_back (test_answer.Told did next) t = followed_back next t
+  answered_back (test_answer.Refused y) t = λ r h. refl
 
   second_back : (x : Converted) → BackIfRefused b (second_judged x b e)
   second_back (converted.Fit s) = answered_back (second b.test s).answer (second b.test s).test

@@ -25,7 +25,7 @@ use Rattle.vehicle.specs.Checked.{vehicle_of, checked_of}
 use Rattle.loaded_test.specs.declared.Verdict.{Verdict}
 use Rattle.loaded_test.specs.declared.Next.{Next}
 use Rattle.loaded_test.specs.declared.Next.TheVariants.{GoesOn, Rests, RestEnded, ModeTwo, Ends}
-use Rattle.loaded_test.specs.declared.Start.TheVariants as test-start
+use Rattle.loaded_test.specs.declared.Start.TheVariants as test_start
 use Rattle.loaded_test.specs.declared.Test.{Test}
 use Rattle.loaded_test.specs.declared.Stepped.{Stepped}
 use Rattle.loaded_test.specs.Steps.{begin, begun_by, cause_fit, second, stop}
@@ -70,8 +70,8 @@ begin_answer :
     (s : Settings) (p : ℕ) →
     (begin s p).answer
     ≡ pick (eqb (unfit_place s) 0)
-    (pick (saturation_fit p) test-start.Begins (test-start.Refused (saturation_unfit 0)))
-    (test-start.Refused (setting_unfit (unfit_place s)))
+    (pick (saturation_fit p) test_start.Begins (test_start.Refused (saturation_unfit 0)))
+    (test_start.Refused (setting_unfit (unfit_place s)))
 unfolding begin begun_by checked_of pick
 begin_answer s p = go (eqb (unfit_place s) 0) (saturation_fit p)
   where
@@ -79,8 +79,8 @@ begin_answer s p = go (eqb (unfit_place s) 0) (saturation_fit p)
         (a b : Bool) →
         (begun_by (pick a (pick b (Fit (vehicle_of s p)) (Refused (saturation_unfit 0))) (Refused (setting_unfit (unfit_place s))))).answer
         ≡ pick a
-        (pick b test-start.Begins (test-start.Refused (saturation_unfit 0)))
-        (test-start.Refused (setting_unfit (unfit_place s)))
+        (pick b test_start.Begins (test_start.Refused (saturation_unfit 0)))
+        (test_start.Refused (setting_unfit (unfit_place s)))
     go true true = refl
     go true false = refl
     go false b = refl
@@ -179,8 +179,8 @@ module _ (validity limit : ℕ) (l : List Accepted) (last : ℕ) where
       (first_refusal
       (fitness
       (pick a
-      (pick b test-start.Begins (test-start.Refused (saturation_unfit 0)))
-      (test-start.Refused (setting_unfit (unfit_place settings)))))
+      (pick b test_start.Begins (test_start.Refused (saturation_unfit 0)))
+      (test_start.Refused (setting_unfit (unfit_place settings)))))
       (pick c ruling.Taken (ruling.Refused (start_locked n))))
       (summary validity limit (at none)) (Start clock settings p) (begin settings p).test
       ≡ summarised validity limit

@@ -11,7 +11,7 @@ use Rattle.loaded_test.specs.declared.Did.{Did}
 use Rattle.loaded_test.specs.declared.Next.TheVariants.{Ends}
 use Rattle.loaded_test.specs.declared.Answer.TheVariants.{Told}
 use Rattle.loaded_test.specs.declared.Test.{Test}
-use Rattle.loaded_test.specs.Log.{Input, step as testStep}
+use Rattle.loaded_test.specs.Log.{Input, step as test_step}
 use Rattle.bench.specs.declared.Answer.{Answer}
 use Rattle.bench.specs.declared.Answer.TheVariants.{Accepted as AnswerAccepted, Judged, Refused}
 use Rattle.bench.specs.declared.Bench.{Bench}
@@ -72,7 +72,7 @@ pub record Gives (h : History) (e : Event) (x : Verdict) : Type 0 where
   pub did : Did
   pub running : h.test ≡ some test
   pub given : input_of (automatic_in h.events) e ≡ some input
-  pub told : (testStep test input).answer ≡ Told did (Ends x)
+  pub told : (test_step test input).answer ≡ Told did (Ends x)
 
 -- Demand 3, for a bench of this V and U.
 pub record Demand3 (validity limit : ℕ) : Type 0 where

@@ -12,10 +12,10 @@ use Rattle.loaded_test.specs.declared.Verdict.{Verdict}
 use Rattle.loaded_test.specs.declared.Next.{Next}
 use Rattle.loaded_test.specs.declared.Next.TheVariants.{GoesOn, Rests, RestEnded, ModeTwo, Ends}
 use Rattle.loaded_test.specs.declared.Answer.{Answer as TestAnswer}
-use Rattle.loaded_test.specs.declared.Answer.TheVariants as test-answer
+use Rattle.loaded_test.specs.declared.Answer.TheVariants as test_answer
 use Rattle.loaded_test.specs.declared.Stepped.{Stepped}
 use Rattle.loaded_test.specs.declared.Start.{Start as TestStart}
-use Rattle.loaded_test.specs.declared.Start.TheVariants as test-start
+use Rattle.loaded_test.specs.declared.Start.TheVariants as test_start
 use Rattle.loaded_test.specs.declared.Test.{Test}
 use Rattle.loaded_test.specs.State.{none_running}
 use Rattle.loaded_test.specs.Going.{is_running}
@@ -103,8 +103,8 @@ service_taken b e x = service_judged (service_ruling x) b e
 
 -- 4 or 5, as the test's beginning tells.
 abbrev pub fitness : TestStart → Ruling
-fitness test-start.Begins = Taken
-fitness (test-start.Refused r) = Refused r
+fitness test_start.Begins = Taken
+fitness (test_start.Refused r) = Refused r
 
 -- 14, by the number of the first lock.
 unfoldable pub lock_ruling : ℕ → Ruling
@@ -147,8 +147,8 @@ followed (Ends x) d e t = judged_with d e x
 
 -- What the test answered to a second or a stop, as the bench's answer.
 abbrev pub answered : TestAnswer → Bench → Event → Test → Handled
-answered (test-answer.Told did next) b e t = followed next b.desk e t
-answered (test-answer.Refused r) b e t = refused r b
+answered (test_answer.Told did next) b e t = followed next b.desk e t
+answered (test_answer.Refused r) b e t = refused r b
 
 -- A second or a stop that the test has taken.
 abbrev pub test_taken : Stepped → Bench → Event → Handled

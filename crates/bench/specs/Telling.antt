@@ -10,7 +10,7 @@ use Rattle.loaded_test.specs.declared.Verdict.{Verdict}
 use Rattle.loaded_test.specs.declared.Next.{Next}
 use Rattle.loaded_test.specs.declared.Next.TheVariants.{GoesOn, Rests, RestEnded, ModeTwo, Ends}
 use Rattle.loaded_test.specs.declared.Answer.{Answer as TestAnswer}
-use Rattle.loaded_test.specs.declared.Answer.TheVariants as test-answer
+use Rattle.loaded_test.specs.declared.Answer.TheVariants as test_answer
 use Rattle.loaded_test.specs.declared.Test.{Test}
 use Rattle.loaded_test.specs.Steps.{begin}
 use Rattle.loaded_test.specs.Log.{Input, a_second, a_stop, step}
@@ -50,8 +50,8 @@ verdict_next (Ends x) = some x
 
 -- The verdict in what the test answered, if there is one.
 unfoldable pub verdict_told : TestAnswer → Option Verdict
-verdict_told (test-answer.Told did next) = verdict_next next
-verdict_told (test-answer.Refused r) = none
+verdict_told (test_answer.Told did next) = verdict_next next
+verdict_told (test_answer.Refused r) = none
 
 -- What an accepted event brings: its verdict, if it brings one, and the test that it leaves, if it leaves one.
 pub record Outcome : Type 0 where
