@@ -1,2 +1,5 @@
 pub mod Picked
 pub mod Exactly
+pub mod Checks
+pub mod Scans
+pub mod Others

@@ -77,3 +77,7 @@ power_unfit = refusal 17 0
 -- background value of a prepare above its channel's greatest: the lowest such code (document 02, A.5)
 abbrev pub background_unfit : ℕ → Refusal
 background_unfit code = refusal 18 code
+
+-- wide form of the channels not needed: the count's offset (document 02, A.6)
+abbrev pub wide_not_needed : ℕ → Refusal
+wide_not_needed offset = refusal 19 offset

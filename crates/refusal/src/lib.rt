@@ -1,13 +1,22 @@
 // A refusal as the table of document 01 and the requests of document 02 give it: the cause's number and the place returned with it.
-// No function: the table's rows are the definitions in specs/Table.antt, which every crate's contracts cite, and their numbers
-// the constants here, which every crate's code takes.
-
+// The table's rows are the definitions in specs/Table.antt, which every crate's contracts cite, and their numbers the constants here,
+// which every crate's code takes. One check after another is `then`.
 #![tactic(auto)]
+
+ghost use Rattle.std.specs.Prelude.{◌≡◌};
+ghost use Rattle.refusal.specs.Checking.{◌⨾◌};
 
 #[derive(Clone, Copy)]
 pub struct Refusal {
     pub number: u8,
     pub place: usize,
+}
+
+// What one check tells.
+#[derive(Clone, Copy)]
+pub enum Check {
+    Fine,
+    Refused(Refusal),
 }
 
 // record ends too early
@@ -63,3 +72,16 @@ pub const POWER_UNFIT: u8 = 17;
 
 // background value of a prepare above its channel's greatest
 pub const BACKGROUND_UNFIT: u8 = 18;
+
+// wide form of the channels not needed
+pub const WIDE_NOT_NEEDED: u8 = 19;
+
+// The first refusal of two checks. Ruled out: the second check's refusal where both refuse; fine where one of them refuses.
+pub fn then(first: Check, second: Check) -> Check
+    ensures { result ≡ (first ⨾ second) }
+{
+    match first {
+        Check::Fine => second,
+        Check::Refused(r) => Check::Refused(r),
+    }
+}
