@@ -6,23 +6,25 @@ use mathlib.Core.Path.{◌≡◌, subst}
 use native.Mathlib.Omega.{arith}
 use borrow.Author.Tests.{le-leb}
 use lib.Dec.{leb}
+use Rattle.std.specs.Prelude.{Ok}
 use Rattle.refusal.proofs.Picked.{on_pick}
 use Rattle.record.specs.Content.{shape_of}
 use Rattle.record.specs.Format.{Below}
 use Rattle.record.specs.Reading.{read_record, stop_cause_in}
 use Rattle.record.specs.RoundTrips.{IsRead}
-use Rattle.record.specs.declared.Read.TheVariants as read
 use Rattle.record.specs.declared.Shape.{Shape}
 use Rattle.record.proofs.ReadFit.{read_is_fit_lem}
 use Rattle.record.proofs.WasRead.{shape_read, is_read}
 use Rattle.loaded_test.specs.Steps.{cause_fit}
-use Rattle.rejudging.specs.Items.{Item, a_row, a_stop, items_from, items_of}
+use Rattle.rejudging.specs.Items.{items_from, items_of}
+use Rattle.rejudging.specs.declared.items.Item.{Item}
+use Rattle.rejudging.specs.declared.items.Item.TheVariants as item
 
 -- The causes of the stops among items are fit.
 abbrev pub CausesFit : List ℕ → Shape → List Item → Type 0
 CausesFit s shape [] = Unit {0}
-CausesFit s shape (a_row row ∷ l) = CausesFit s shape l
-CausesFit s shape (a_stop i ∷ l) = (cause_fit (stop_cause_in s shape i) ≡ true) × CausesFit s shape l
+CausesFit s shape (item.Row row ∷ l) = CausesFit s shape l
+CausesFit s shape (item.Stop i ∷ l) = (cause_fit (stop_cause_in s shape i) ≡ true) × CausesFit s shape l
 
 module _ (s : List ℕ) (shape : Shape) (past : ℕ → ℕ) where
   among_items :
@@ -45,7 +47,7 @@ read_causes s b e i h =
     rw (le-leb 1 _ c.0, le-leb _ 4 c.1)
 
 pub causes_fit :
-    (s : List ℕ) (shape : Shape) → Below 256 s → read_record s ≡ read.Fit shape → CausesFit s shape (items_of s shape)
+    (s : List ℕ) (shape : Shape) → Below 256 s → read_record s ≡ Ok shape → CausesFit s shape (items_of s shape)
 causes_fit s shape b e =
     subst (λ (x : Shape). CausesFit s x (items_of s x)) (shape_read s shape e)
     (among_items s (shape_of s) _ 0 (shape_of s).rows 0 (shape_of s).stops (read_causes s b (is_read s shape e)))

@@ -5,49 +5,46 @@ use mathlib.Core.List.{List, [], ◌∷◌}
 use mathlib.Core.Path.{◌≡◌, refl, sym, ◌∙◌, ap, subst}
 use native.Mathlib.Omega.{arith}
 use native.Mathlib.Nat.{le_refl}
+use Rattle.std.specs.Prelude.{Some, None, Option, Ok, Err, Result}
+use Rattle.refusal.specs.declared.Refusal.{Refusal}
+use Rattle.vehicle.specs.declared.Vehicle.{Vehicle}
+use Rattle.reading.specs.declared.Second.{Second}
 use Rattle.refusal.specs.Choice.{pick}
-use Rattle.reading.specs.Units.{second_of}
-use Rattle.reading.specs.declared.Converted.{Converted}
-use Rattle.reading.specs.declared.Converted.TheVariants as converted
+use Rattle.reading.specs.Units.{keep, second_of}
 use Rattle.vehicle.specs.Checked.{vehicle_of, checked_of}
-use Rattle.vehicle.specs.declared.Checked.{Checked}
-use Rattle.vehicle.specs.declared.Checked.TheVariants as checked
 use Rattle.vehicle.specs.declared.Settings.{Settings}
 use Rattle.record.specs.Reading.{stop_cause_in}
 use Rattle.record.specs.declared.Shape.{Shape}
 use Rattle.loaded_test.specs.Going.{is_running, has_ended, ends_in, Goes}
-use Rattle.loaded_test.specs.State.{verdict_of}
+use Rattle.loaded_test.specs.State.{verdict_of, began}
 use Rattle.loaded_test.specs.Steps.{begin, begun_by, second, stop}
 use Rattle.loaded_test.specs.declared.Next.{Next}
 use Rattle.loaded_test.specs.declared.Next.TheVariants.{GoesOn, Rests, RestEnded, ModeTwo, Ends}
 use Rattle.loaded_test.specs.declared.Stage.{Stage}
 use Rattle.loaded_test.specs.declared.Stage.TheVariants.{NotBegun, Settling, Measuring, Rest, Ended}
-use Rattle.loaded_test.specs.declared.Start.TheVariants as test_start
 use Rattle.loaded_test.specs.declared.Stepped.{Stepped}
 use Rattle.loaded_test.specs.declared.Test.{Test}
 use Rattle.loaded_test.specs.declared.Verdict.{Verdict}
 use Rattle.loaded_test.specs.declared.Word.{Word}
-use Rattle.loaded_test.specs.declared.Word.TheVariants as word
 use Rattle.loaded_test.proofs.Going.{second_goes, stop_goes, running_open}
 use Rattle.loaded_test.proofs.Driven.{second_same, stop_same}
 use Rattle.locks.specs.Events.{clock_after}
 use Rattle.locks.specs.declared.Event.{Event}
 use Rattle.bench.specs.Demand.{bench_after, bench_answers}
-use Rattle.bench.specs.Stepping.{with_test, second_taken, test_taken, running as test_runs, step}
+use Rattle.bench.specs.Stepping.{gone_on, second_taken, test_taken, running as test_runs, step}
 use Rattle.bench.specs.declared.Bench.{Bench}
 use Rattle.bench.specs.declared.Handled.{Handled}
-use Rattle.rejudging.specs.Items.{Item, a_row, a_stop, items_of}
-use Rattle.vehicle.specs.Settings.{automatic, unfit_place}
-use Rattle.correction.specs.Humidity.{saturation_fit}
-use Rattle.refusal.specs.Table.{setting_unfit, saturation_unfit}
-use lib.Dec.{eqb}
+use Rattle.rejudging.specs.Items.{items_of}
+use Rattle.rejudging.specs.declared.items.Item.{Item}
+use Rattle.rejudging.specs.declared.items.Item.TheVariants as item
+use Rattle.vehicle.specs.Settings.{automatic}
+use Rattle.vehicle.proofs.FitVehicle.{checked_fit}
 use Rattle.rejudging.specs.Rejudging.{settings_of, saturation_of}
 use Rattle.rejudging.specs.Rows.{readings_in, row_start}
-use Rattle.rejudging.specs.Sheets.{shown_for, shown_of, sheet_of}
-use Rattle.rejudging.specs.Taking.{units_given, row_given, item_given, stepped, or_refused, ran_by}
-use Rattle.rejudging.specs.declared.Rejudged.TheVariants as rejudged
+use Rattle.rejudging.specs.Sheets.{word_of, sheet_of}
+use Rattle.rejudging.specs.Taking.{units_given, row_given, item_given, stepped, ran_by}
 use Rattle.rejudging.specs.declared.Sheet.{Sheet}
-use Rattle.rejudging.specs.declared.Shown.TheVariants as shown
+use Rattle.rejudging.proofs.WasRead.{vehicle_in}
 use Rattle.rejudging.proofs.Tested.{run_of, same_sheet}
 use Rattle.rejudging.proofs.WasRead.{start_fit}
 use Rattle.agreement.specs.Agreement.{event_of, EventsOf, verdicts_in, verdict_shown, Agrees, Agreement}
@@ -65,18 +62,16 @@ runs_too : (b : Bench) (x : Test) → b.test ≡ x → is_running x.progress.sta
 runs_too b x e h = ap (λ y. is_running y.progress.stage) e ∙ h
 
 -- Before a verdict a test is open.
-open_shown : (st : Stage) → has_ended st ≡ false → shown_of st ≡ shown.Open
-unfolding has_ended shown_of
+open_shown : (st : Stage) → has_ended st ≡ false → word_of st ≡ None
+unfolding has_ended
 open_shown NotBegun h = refl
 open_shown Settling h = refl
 open_shown Measuring h = refl
 open_shown Rest h = refl
 open_shown (Ended w) h = absurd (true≢false h)
 
-not_open : (w : Word) → shown_for w ≡ shown.Open → ⊥
-not_open word.Pass h = let z : ◌≡◌ {A = ℕ} 0 1 = cc in omega arith
-not_open word.Fail h = let z : ◌≡◌ {A = ℕ} 0 1 = cc in omega arith
-not_open word.Incomplete h = let z : ◌≡◌ {A = ℕ} 0 1 = cc in omega arith
+not_open : (w : Word) → ◌≡◌ {A = Option Word} (Some w) None → ⊥
+not_open w h = let z : ◌≡◌ {A = ℕ} 0 1 = cc in omega arith
 
 -- A verdict's sheet shows it.
 shows_verdict :
@@ -84,10 +79,8 @@ shows_verdict :
     x.progress.stage ≡ Ended w →
     v ≡ verdict_of w x.progress.measuring →
     v ∷ [] ≡ verdict_shown (sheet_of x).word (sheet_of x)
-unfolding verdict_shown sheet_of shown_of
-shows_verdict word.Pass v x e h = rw (e, h)
-shows_verdict word.Fail v x e h = rw (e, h)
-shows_verdict word.Incomplete v x e h = rw (e, h)
+unfolding verdict_shown sheet_of
+shows_verdict w v x e h = rw (e, h)
 
 module _ (s : List ℕ) (shape : Shape) (automatic : Bool) where
   -- After the last item of an open test.
@@ -110,12 +103,12 @@ module _ (s : List ℕ) (shape : Shape) (automatic : Bool) where
   -- After a verdict no item is left.
   agrees_ended :
       (l : List Item) (es : List Event) (clock : ℕ) (b : Bench) (e : Event) (y : Stepped) (g : Goes y) (v : Verdict) (sheet : Sheet) →
-      g.next ≡ Ends v →
+      g.told.next ≡ Ends v →
       step b e ≡ test_taken y b e →
       EventsOf s shape clock l es →
-      ran_by s shape automatic l y.test ≡ rejudged.Judged sheet →
+      ran_by s shape automatic l y.test ≡ Ok sheet →
       Agrees b (e ∷ es) sheet
-  unfolding ran_by has_ended pick bench_answers bench_after verdicts_in sheet_of shown_of
+  unfolding ran_by has_ended pick bench_answers bench_after verdicts_in sheet_of
   agrees_ended [] [] clock b e y g v sheet n q ev r =
       let h = q ∙ ends y b e g v n in
       let k = g.verdict v n in
@@ -128,14 +121,14 @@ module _ (s : List ℕ) (shape : Shape) (automatic : Bool) where
       })
   agrees_ended [] (f ∷ es) clock b e y g v sheet n q ev r = absurd ev
   agrees_ended (i ∷ l) es clock b e y g v sheet n q ev r =
-      let w : rejudged.Refused _ ≡ rejudged.Judged sheet = rw (g.verdict v n).0 at r in
+      let w : Err _ ≡ Ok sheet = rw (g.verdict v n).0 at r in
       let z : ◌≡◌ {A = ℕ} 0 1 = cc in
       absurd (omega arith)
 
   -- An item that leaves the test open.
   agrees_on :
       (es : List Event) (clock : ℕ) (b : Bench) (e : Event) (y : Stepped) (g : Goes y) (sheet : Sheet) →
-      ends_in g.next ≡ false →
+      ends_in g.told.next ≡ false →
       step b e ≡ test_taken y b e →
       y.test.vehicle.automatic ≡ automatic →
       clock_after e ≡ clock →
@@ -144,7 +137,7 @@ module _ (s : List ℕ) (shape : Shape) (automatic : Bool) where
   unfolding bench_answers bench_after verdicts_in
   agrees_on es clock b e y g sheet n q a k next =
       let h : step b e ≡ _ = q ∙ goes_on y b e g n in
-      let c : Agrees (with_test b.desk e y.test) es sheet =
+      let c : Agrees (gone_on b.desk e y.test).bench es sheet =
       next _ (record { clock = rw k (le_refl _); gearbox = a; test = refl })
       in
       record {
@@ -158,7 +151,7 @@ module _ (s : List ℕ) (shape : Shape) (automatic : Bool) where
   abbrev Remaining : List Item → List Event → ℕ → Sheet → Type 0
   Remaining l es clock sheet =
       (x : Test) →
-      ran_by s shape automatic l x ≡ rejudged.Judged sheet →
+      ran_by s shape automatic l x ≡ Ok sheet →
       (c : Bench) →
       Tracks c clock automatic x →
       is_running x.progress.stage ≡ true →
@@ -170,16 +163,16 @@ module _ (s : List ℕ) (shape : Shape) (automatic : Bool) where
       y.test.vehicle.automatic ≡ automatic →
       clock_after e ≡ clock →
       EventsOf s shape clock l es →
-      ran_by s shape automatic l y.test ≡ rejudged.Judged sheet →
+      ran_by s shape automatic l y.test ≡ Ok sheet →
       Remaining l es clock sheet →
       Agrees b (e ∷ es) sheet
   unfolding ends_in
-  agrees_step l es clock b e y g sheet q a k ev r rest = go g.next refl
+  agrees_step l es clock b e y g sheet q a k ev r rest = go g.told.next refl
     where
-      on : ends_in g.next ≡ false → Agrees b (e ∷ es) sheet
+      on : ends_in g.told.next ≡ false → Agrees b (e ∷ es) sheet
       on n = agrees_on es clock b e y g sheet n q a k (λ c t. rest y.test r c t (g.stage ∙ ap not n))
 
-      go : (n : Next) → g.next ≡ n → Agrees b (e ∷ es) sheet
+      go : (n : Next) → g.told.next ≡ n → Agrees b (e ∷ es) sheet
       go GoesOn n = on (rw n refl)
       go Rests n = on (rw n refl)
       go RestEnded n = on (rw n refl)
@@ -188,27 +181,27 @@ module _ (s : List ℕ) (shape : Shape) (automatic : Bool) where
 
   -- A row: its units were fit, or rejudging would have refused it.
   agrees_row :
-      (row : ℕ) (l : List Item) (es : List Event) (last clock : ℕ) (b : Bench) (x : Test) (sheet : Sheet) (u : Converted) →
+      (row : ℕ) (l : List Item) (es : List Event) (last clock : ℕ) (b : Bench) (x : Test) (sheet : Sheet) (u : Result Second Refusal) →
       second_of (readings_in s shape (row_start shape row)) automatic ≡ u →
       last ≤ clock →
       Tracks b last automatic x →
       is_running x.progress.stage ≡ true →
       EventsOf s shape clock l es →
-      ran_by s shape automatic (a_row row ∷ l) x ≡ rejudged.Judged sheet →
+      ran_by s shape automatic (item.Row row ∷ l) x ≡ Ok sheet →
       Remaining l es clock sheet →
-      Agrees b (event_of s shape clock (a_row row) ∷ es) sheet
-  unfolding ran_by item_given row_given units_given stepped or_refused second_taken pick
-  agrees_row row l es last clock b x sheet (converted.Fit u) f k t h ev r rest =
+      Agrees b (event_of s shape clock (item.Row row) ∷ es) sheet
+  unfolding ran_by item_given row_given units_given stepped keep second_taken pick
+  agrees_row row l es last clock b x sheet (Ok u) f k t h ev r rest =
       let q = second_taken_lem b clock (runs_too b x t.test h) (omega (arith, t.clock)) (readings_in s shape (row_start shape row)) in
-      let w : step b (event_of s shape clock (a_row row)) ≡ test_taken (second x u) b (event_of s shape clock (a_row row)) =
+      let w : step b (event_of s shape clock (item.Row row)) ≡ test_taken (second x u) b (event_of s shape clock (item.Row row)) =
       q ∙ simp (t.test, t.gearbox, f)
       in
-      agrees_step l es clock b (event_of s shape clock (a_row row)) (second x u) (second_goes x u h) sheet w
+      agrees_step l es clock b (event_of s shape clock (item.Row row)) (second x u) (second_goes x u h) sheet w
       (ap (λ v. v.automatic) (second_same x u) ∙ t.gearbox) refl ev
       (rw (running_open _ h, f) at r)
       rest
-  agrees_row row l es last clock b x sheet (converted.Refused r₀) f k t h ev r rest =
-      let w : rejudged.Refused _ ≡ rejudged.Judged sheet = rw (running_open _ h, f) at r in
+  agrees_row row l es last clock b x sheet (Err r₀) f k t h ev r rest =
+      let w : Err _ ≡ Ok sheet = rw (running_open _ h, f) at r in
       let z : ◌≡◌ {A = ℕ} 0 1 = cc in
       absurd (omega arith)
 
@@ -218,17 +211,17 @@ module _ (s : List ℕ) (shape : Shape) (automatic : Bool) where
       last ≤ clock →
       Tracks b last automatic x →
       is_running x.progress.stage ≡ true →
-      CausesFit s shape (a_stop i ∷ l) →
+      CausesFit s shape (item.Stop i ∷ l) →
       EventsOf s shape clock l es →
-      ran_by s shape automatic (a_stop i ∷ l) x ≡ rejudged.Judged sheet →
+      ran_by s shape automatic (item.Stop i ∷ l) x ≡ Ok sheet →
       Remaining l es clock sheet →
-      Agrees b (event_of s shape clock (a_stop i) ∷ es) sheet
-  unfolding ran_by item_given stepped or_refused pick
+      Agrees b (event_of s shape clock (item.Stop i) ∷ es) sheet
+  unfolding ran_by item_given stepped keep pick
   agrees_stop i l es last clock b x sheet k t h c ev r rest =
-      let w : step b (event_of s shape clock (a_stop i)) ≡ test_taken (stop x (stop_cause_in s shape i)) b (event_of s shape clock (a_stop i)) =
+      let w : step b (event_of s shape clock (item.Stop i)) ≡ test_taken (stop x (stop_cause_in s shape i)) b (event_of s shape clock (item.Stop i)) =
       stop_taken_lem b clock (runs_too b x t.test h) (omega (arith, t.clock)) (stop_cause_in s shape i) ∙ simp t.test
       in
-      agrees_step l es clock b (event_of s shape clock (a_stop i)) (stop x (stop_cause_in s shape i)) (stop_goes x _ c.0 h) sheet w
+      agrees_step l es clock b (event_of s shape clock (item.Stop i)) (stop x (stop_cause_in s shape i)) (stop_goes x _ c.0 h) sheet w
       (ap (λ v. v.automatic) (stop_same x (stop_cause_in s shape i)) ∙ t.gearbox) refl ev (rw (running_open _ h) at r) rest
 
   follows :
@@ -237,55 +230,35 @@ module _ (s : List ℕ) (shape : Shape) (automatic : Bool) where
       CausesFit s shape l →
       Tracks b last automatic x →
       is_running x.progress.stage ≡ true →
-      ran_by s shape automatic l x ≡ rejudged.Judged sheet →
+      ran_by s shape automatic l x ≡ Ok sheet →
       Agrees b es sheet
   unfolding ran_by
   follows [] [] last b x sheet ev c t h r = agrees_open b last x sheet t h (same_sheet _ _ r)
   follows [] (e ∷ es) last b x sheet ev c t h r = absurd ev
   follows (i ∷ l) [] last b x sheet ev c t h r = absurd ev
-  follows (a_row row ∷ l) (e ∷ es) last b x sheet ev c t h r =
+  follows (item.Row row ∷ l) (e ∷ es) last b x sheet ev c t h r =
       rw ev.2
       (agrees_row row l es last ev.0 b x sheet _ refl ev.1 t h ev.3 r
       (λ y q d u n. follows l es ev.0 d y sheet ev.3 c u n q))
-  follows (a_stop i ∷ l) (e ∷ es) last b x sheet ev c t h r =
+  follows (item.Stop i ∷ l) (e ∷ es) last b x sheet ev c t h r =
       rw ev.2
       (agrees_stop i l es last ev.0 b x sheet ev.1 t h c ev.3 r
       (λ y q d u n. follows l es ev.0 d y sheet ev.3 c.1 u n q))
 
--- A test that began runs.
-begun_open : (x : Checked) → (begun_by x).answer ≡ test_start.Begins → is_running (begun_by x).test.progress.stage ≡ true
-unfolding begun_by is_running
-begun_open (checked.Fit v) h = refl
-begun_open (checked.Refused r) h = let z : ◌≡◌ {A = ℕ} 0 1 = cc in absurd (omega arith)
-
-begins_open : (settings : Settings) (p : ℕ) → (begin settings p).answer ≡ test_start.Begins → is_running (begin settings p).test.progress.stage ≡ true
-unfolding begin
-begins_open settings p h = begun_open (checked_of settings p) h
-
--- Its gearbox is that of its settings.
-begun_gearbox :
-    (settings : Settings) (p : ℕ) →
-    (begin settings p).answer ≡ test_start.Begins →
-    (begin settings p).test.vehicle.automatic ≡ automatic settings
-unfolding begin begun_by checked_of vehicle_of pick
-begun_gearbox settings p = go (eqb (unfit_place settings) 0) (saturation_fit p)
-  where
-    go :
-        (a b : Bool) →
-        (begun_by (pick a (pick b (checked.Fit (vehicle_of settings p)) (checked.Refused (saturation_unfit 0))) (checked.Refused (setting_unfit (unfit_place settings))))).answer
-        ≡ test_start.Begins →
-        (begun_by (pick a (pick b (checked.Fit (vehicle_of settings p)) (checked.Refused (saturation_unfit 0))) (checked.Refused (setting_unfit (unfit_place settings))))).test.vehicle.automatic
-        ≡ automatic settings
-    go true true h = refl
-    go true false h = let z : ◌≡◌ {A = ℕ} 0 1 = cc in absurd (omega arith)
-    go false b h = let z : ◌≡◌ {A = ℕ} 0 1 = cc in absurd (omega arith)
+-- A vehicle's gearbox is that of its settings.
+gearbox_of : (settings : Settings) (p : ℕ) (v : Vehicle) → checked_of settings p ≡ Ok v → v.automatic ≡ automatic settings
+unfolding vehicle_of
+gearbox_of settings p v e = ap (λ (x : Vehicle). x.automatic) (checked_fit settings p v e).derived
 
 pub same_verdict : Agreement
+unfolding begin begun_by is_running
 same_verdict s shape x below e r b clock es a ev =
     let settings = settings_of s shape in
     let p = saturation_of s shape in
-    rw (admitted b clock settings p a)
-    (follows s shape (automatic settings) (items_of s shape) es clock _ (begin settings p).test x ev (causes_fit s shape below e)
-    (record { clock = le_refl clock; gearbox = begun_gearbox settings p (start_fit s shape e); test = refl })
-    (begins_open settings p (start_fit s shape e))
+    let v = vehicle_in s shape in
+    let fit = start_fit s shape e in
+    rw (admitted b clock settings p (began v) (rw fit refl) a)
+    (follows s shape (automatic settings) (items_of s shape) es clock _ (began v) x ev (causes_fit s shape below e)
+    (record { clock = le_refl clock; gearbox = gearbox_of settings p v fit; test = refl })
+    refl
     (run_of s shape x e r))

@@ -1,4 +1,3 @@
-pub mod Tests
 pub mod Most
 pub mod Screens
 pub mod Ruled

@@ -1,17 +1,18 @@
 -- The ending rule in numbers. Assumes nothing.
 use Prim.Native.Nat.{ℕ, ◌≤◌, ◌<◌}
-use mathlib.Core.Bool.{Bool, true, false, ◌&&◌, true≢false}
-use mathlib.Core.Path.{◌≡◌, sym, ◌∙◌}
+use mathlib.Core.Bool.{Bool, true, false}
+use mathlib.Core.Path.{◌≡◌}
 use mathlib.Core.Logic.{◌⊎◌, inl, inr}
-use lib.Dec.{leb, eqb}
-use borrow.Author.Tests.{eqb-true, eqb-false, le-leb, leb-true, leb-false}
+use lib.Dec.{eqb}
+use borrow.Author.Tests.{eqb-true, eqb-false, leb-true, leb-false}
+use Rattle.std.proofs.lemmas.Bool.Decides.{nat_tests}
+use native.Mathlib.Omega.{arith}
 use Rattle.refusal.proofs.Picked.{on_pick}
 use Rattle.attempt.specs.declared.WindowCounts.{WindowCounts}
 use Rattle.attempt.specs.declared.Ending.{Ending}
 use Rattle.attempt.specs.declared.Ending.TheVariants.{NotYet, Passes, ModeEnds, Inconclusive}
 use Rattle.attempt.specs.Ending.{at_ninety, early_pass, ending_rule}
 use Rattle.attempt.specs.Laws.{RuleSays, RuledExactly}
-use Rattle.attempt.proofs.Tests.{and_left, and_right}
 
 -- An early pass meets its three tests.
 early :
@@ -19,12 +20,7 @@ early :
     early_pass t k held ≡ true →
     (25 ≤ t) × (15 ≤ k.passing) × (held ≡ true)
 unfolding early_pass
-early t k held e =
-    let both = and_left (leb _ t && leb _ k.passing) _ e in (
-      leb-true _ _ (and_left (leb _ t) (leb _ k.passing) both),
-      leb-true _ _ (and_right (leb _ t) (leb _ k.passing) both),
-      and_right (leb _ t && leb _ k.passing) _ e,
-    )
+early t k held e = grind (arith, nat_tests)
 
 -- Short of an early pass one of its three tests fails.
 not_early :
@@ -32,8 +28,7 @@ not_early :
     early_pass t k held ≡ false →
     25 ≤ t → 15 ≤ k.passing → held ≡ true → ⊥
 unfolding early_pass
-not_early t k held e least enough h =
-    true≢false (sym (simp (le-leb _ _ least, le-leb _ _ enough, h)) ∙ e)
+not_early t k held e least enough h = grind (arith, nat_tests)
 
 -- What holds of each outcome, from what led to it, holds of the rule's.
 pub on_ending :

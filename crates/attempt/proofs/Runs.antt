@@ -6,7 +6,7 @@ use mathlib.Core.Path.{◌≡◌, refl, sym, ap, ap₂, ◌∙◌}
 use mathlib.Core.List.{List, [], ◌∷◌}
 use lib.Dec.{eqb}
 use lib.ListN.{length, length-map}
-use borrow.Author.Tests.{eqb-false}
+use Rattle.std.proofs.lemmas.Bool.Decides.{nat_tests}
 use Rattle.refusal.specs.Choice.{pick}
 use Rattle.attempt.specs.declared.MeasuringCounts.{MeasuringCounts}
 use Rattle.attempt.specs.Counting.{bump, in_row, in_all, row_of, all_of}
@@ -14,7 +14,6 @@ use Rattle.attempt.specs.Speeds.{speed_at, first_ten, all_held, speed_held}
 use Rattle.attempt.specs.Measuring.{no_measuring, first_speed, still_held, tallied, window_counted, restarts, restarted}
 use Rattle.attempt.specs.Runs.{Driven, Taken, a_second, a_window, outs, speeds, restarts_at, run_of, counts_after}
 use Rattle.attempt.specs.Laws.{CountsTold}
-use Rattle.attempt.proofs.Tests.{or_left, or_right}
 use Rattle.attempt.proofs.Most.{row_most, all_most}
 use Rattle.attempt.proofs.Speeds.{held_exactly, first_more, held_more}
 
@@ -95,9 +94,7 @@ again s run k h =
     chosen (restarts_at (s ∷ run)) _ (s ∷ run) (tallied s.out s.speed k)
     (ap₂ (λ (u w : ℕ). eqb u 3 || eqb w 6) (sym m.row) (sym m.all))
     (λ e.
-    let f = eqb-false (in_row s.out k.row) 3 (or_left _ (eqb (in_all s.out k.all) 6) e) in
-    let g = eqb-false (in_all s.out k.all) 6 (or_right (eqb (in_row s.out k.row) 3) _ e) in
-    record { keeps = m; row = omega arith; all = omega arith })
+    record { keeps = m; row = grind (arith, nat_tests); all = grind (arith, nat_tests) })
 
 kept : (l : List Taken) → Kept (run_of l) (counts_after l)
 unfolding run_of counts_after window_counted

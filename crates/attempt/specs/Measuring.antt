@@ -27,28 +27,21 @@ still_held t first speed held = (ltb 10 t || held_at first speed) && held
 
 -- "t grows by 1", u counts out seconds in a row and w in all; second 1's speed is kept, and whether the speed has held.
 unfoldable pub tallied : Bool → ℕ → MeasuringCounts → MeasuringCounts
-tallied out speed k = record {
+tallied out speed k = record k {
   seconds = bump k.seconds;
   row = in_row out k.row;
   all = in_all out k.all;
-  windows = k.windows;
   first = first_speed (bump k.seconds) speed k.first;
   held = still_held (bump k.seconds) (first_speed (bump k.seconds) speed k.first) speed k.held;
-  kept = k.kept;
 }
 
 -- "a valid one passes if all three gases pass, else fails"; it is the last valid window.
 unfoldable pub window_counted : Bool → MeasuringCounts → MeasuringCounts
-window_counted passes k = record {
-  seconds = k.seconds;
-  row = k.row;
-  all = k.all;
+window_counted passes k = record k {
   windows = record {
     passing = in_all passes k.windows.passing;
     failing = in_all (not passes) k.windows.failing;
   };
-  first = k.first;
-  held = k.held;
   kept = true;
 }
 

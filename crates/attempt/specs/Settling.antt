@@ -15,30 +15,20 @@ no_settling = record { seconds = 0; ready = 0; row = 0; all = 0 }
 
 -- "g counts ready seconds in a row." It is read in settling alone, and counted there alone.
 abbrev pub ready_counted : Bool → SettlingCounts → SettlingCounts
-ready_counted is_ready k = record {
-  seconds = k.seconds;
-  ready = in_row is_ready k.ready;
-  row = k.row;
-  all = k.all;
-}
+ready_counted is_ready k = record k { ready = in_row is_ready k.ready }
 
 -- n grows by 1.
 abbrev pub grown : SettlingCounts → SettlingCounts
-grown k = record { seconds = bump k.seconds; ready = k.ready; row = k.row; all = k.all }
+grown k = record k { seconds = bump k.seconds }
 
 -- "u counts out seconds in a row and w in all"
 abbrev pub out_counted : Bool → SettlingCounts → SettlingCounts
-out_counted out k = record {
-  seconds = k.seconds;
-  ready = k.ready;
-  row = in_row out k.row;
-  all = in_all out k.all;
-}
+out_counted out k = record k { row = in_row out k.row; all = in_all out k.all }
 
 -- "at u = 2 or w = 5, n, u, w become 0"
 unfoldable pub begun_anew : SettlingCounts → SettlingCounts
 begun_anew k =
-    pick (eqb k.row 2 || eqb k.all 5) (record { seconds = 0; ready = k.ready; row = 0; all = 0 }) k
+    pick (eqb k.row 2 || eqb k.all 5) (record k { seconds = 0; row = 0; all = 0 }) k
 
 -- "While n ≤ 20, u counts out seconds in a row and w in all"
 unfoldable pub watched : Bool → SettlingCounts → SettlingCounts

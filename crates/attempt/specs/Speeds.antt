@@ -1,5 +1,6 @@
 -- The speed drop (document 02, A.4): "the drop counts at every second from 1 to 10." The speeds are those of the seconds of this t, newest first.
-use Rattle.std.specs.Prelude.{ℕ, suc, ◌+◌, ◌-◌, ◌≤◌, Bool, true, ◌&&◌, List, [], ◌∷◌, leb, eqb, length, drop}
+use Rattle.std.specs.Prelude.{ℕ, suc, ◌+◌, ◌-◌, ◌≤◌, Bool, List, [], ◌∷◌, leb, eqb, length, drop}
+use Rattle.std.specs.List.{list_all}
 use Rattle.refusal.specs.Choice.{pick}
 
 -- The speed of measured second k, 0 where the run is shorter.
@@ -17,8 +18,7 @@ held_at first speed = leb first (speed + 8)
 
 -- Each of these speeds is at most 8 below.
 unfoldable pub all_held : ℕ → List ℕ → Bool
-all_held first [] = true
-all_held first (speed ∷ l) = held_at first speed && all_held first l
+all_held first l = list_all (held_at first) l
 
 -- "An early pass now needs each of those ten speeds to be at most 0.8 km/h below second 1's."
 unfoldable pub speed_held : List ℕ → Bool

@@ -34,7 +34,7 @@ use reading::Second;
 use vehicle::{Mode, Vehicle};
 
 // Settling: document 01's n, g, u, w.
-#[derive(Clone, Copy)]
+#[derive(Clone, Copy, Debug, Default, PartialEq, Eq)]
 pub struct SettlingCounts {
     pub seconds: u8,
     pub ready: u8,
@@ -43,15 +43,15 @@ pub struct SettlingCounts {
 }
 
 // Valid windows that pass and that fail.
-#[derive(Clone, Copy)]
+#[derive(Clone, Copy, Debug, Default, PartialEq, Eq)]
 pub struct WindowCounts {
     pub passing: u8,
     pub failing: u8,
 }
 
 // Measuring: document 01's t, u, w, the counts of windows, the speed of measured second 1, whether the speeds up to second 10 have held, and
-// whether there is a last valid window.
-#[derive(Clone, Copy)]
+// whether there is a last valid window (`loaded_test::Test` says why that is a flag).
+#[derive(Clone, Copy, Debug, PartialEq, Eq)]
 pub struct MeasuringCounts {
     pub seconds: u8,
     pub row: u8,
@@ -76,8 +76,9 @@ pub const NO_MEASURING: MeasuringCounts = MeasuringCounts {
     kept: false,
 };
 
-// What is looked at before the stage: the test waits for its first counted second, the second is void, or neither.
-#[derive(Clone, Copy)]
+// What is looked at before the stage: the test waits for its first counted second, the second is void (by its number, as in
+// `loaded_test::Did`), or neither.
+#[derive(Clone, Copy, Debug, PartialEq, Eq)]
 pub enum Screen {
     Waits,
     Flawed(u8),
@@ -85,7 +86,7 @@ pub enum Screen {
 }
 
 // What the ending rule says.
-#[derive(Clone, Copy)]
+#[derive(Clone, Copy, Debug, PartialEq, Eq)]
 pub enum Ending {
     NotYet,
     Passes,
@@ -98,30 +99,24 @@ pub enum Ending {
 pub fn bump(n: u8) -> u8
     ensures { result ≡ bump n }
 {
-    if n < 255 {
-        return n + 1;
-    }
-    255
+    n.saturating_add(1)
 }
 
 // One more where it holds, else 0.
 // Ruled out: a count kept where the row breaks, and one that grows by 2.
+#[tactic(auto, unfolding(crate::specs::Counting::in_row, refusal::specs::Choice::pick))]
 pub fn in_row(holds: bool, n: u8) -> u8
     ensures { result ≡ in_row holds n }
 {
-    if holds {
-        return bump(n);
-    }
-    0
+    if holds { bump(n) } else { 0 }
 }
 
+// One more where it holds, else what it was. Beside `in_row`, since the rules speak of both.
+#[tactic(auto, unfolding(crate::specs::Counting::in_all, refusal::specs::Choice::pick))]
 fn in_all(holds: bool, n: u8) -> u8
     ensures { result ≡ in_all holds n }
 {
-    if holds {
-        return bump(n);
-    }
-    n
+    if holds { bump(n) } else { n }
 }
 
 fn waits(counted: u8, s: Second) -> bool
@@ -136,6 +131,7 @@ fn diluted(s: Second) -> bool
     correction::dilution_sum(s.co2(), s.co()) < 600
 }
 
+#[tactic(auto, unfolding(refusal::specs::Choice::pick))]
 fn flaw_of(over: bool, thin: bool) -> Screen
     ensures { result ≡ flaw_of over thin }
 {
@@ -150,6 +146,7 @@ fn flaw_of(over: bool, thin: bool) -> Screen
 
 // What a second is before its stage is looked at.
 // Ruled out: a diluted second over range void 5, and dilution looked at while the test waits.
+#[tactic(auto, using(crate::proofs::Screens::screened_exactly, crate::proofs::Sums::six_hundred), unfolding(crate::specs::Screening::screened, refusal::specs::Choice::pick))]
 pub fn screened(counted: u8, s: Second) -> Screen
     ensures { (result ≡ screened counted s) × ScreenedExactly × SixHundred }
 {
@@ -165,6 +162,7 @@ fn within(k: u16, speed: u16, target: u16) -> bool
     vehicle::apart(speed, target) <= k
 }
 
+#[tactic(auto, unfolding(crate::specs::Ready::ready))]
 fn ready(v: Vehicle, mode: Mode, s: Second) -> bool
     ensures { result ≡ ready v mode s }
 {
@@ -178,36 +176,35 @@ fn ready_counted(fit: bool, k: SettlingCounts) -> SettlingCounts
     ensures { result ≡ ready_counted fit k }
 {
     SettlingCounts {
-        seconds: k.seconds,
         ready: in_row(fit, k.ready),
-        row: k.row,
-        all: k.all,
+        ..k
     }
 }
 
+#[tactic(auto, unfolding(crate::specs::Settling::begun_anew, refusal::specs::Choice::pick))]
 fn begun_anew(k: SettlingCounts) -> SettlingCounts
     ensures { result ≡ begun_anew k }
 {
     if (k.row == 2) | (k.all == 5) {
         return SettlingCounts {
             seconds: 0,
-            ready: k.ready,
             row: 0,
             all: 0,
+            ..k
         };
     }
     k
 }
 
+#[tactic(auto, unfolding(crate::specs::Settling::watched, refusal::specs::Choice::pick))]
 fn watched(out: bool, k: SettlingCounts) -> SettlingCounts
     ensures { result ≡ watched out k }
 {
     if k.seconds <= 20 {
         return begun_anew(SettlingCounts {
-            seconds: k.seconds,
-            ready: k.ready,
             row: in_row(out, k.row),
             all: in_all(out, k.all),
+            ..k
         });
     }
     k
@@ -218,12 +215,11 @@ fn grown(k: SettlingCounts) -> SettlingCounts
 {
     SettlingCounts {
         seconds: bump(k.seconds),
-        ready: k.ready,
-        row: k.row,
-        all: k.all,
+        ..k
     }
 }
 
+#[tactic(auto, unfolding(crate::specs::Settling::settled_one, refusal::specs::Choice::pick))]
 fn settled_one(out: bool, k: SettlingCounts) -> SettlingCounts
     ensures { result ≡ settled_one out k }
 {
@@ -233,6 +229,7 @@ fn settled_one(out: bool, k: SettlingCounts) -> SettlingCounts
     watched(out, grown(k))
 }
 
+#[tactic(auto, unfolding(crate::specs::Settling::settled_two, refusal::specs::Choice::pick))]
 fn settled_two(near: bool, k: SettlingCounts) -> SettlingCounts
     ensures { result ≡ settled_two near k }
 {
@@ -244,6 +241,7 @@ fn settled_two(near: bool, k: SettlingCounts) -> SettlingCounts
 
 // A counted second of settling in mode 1.
 // Ruled out: n that starts at a second more than 50 from target, and u counted past n = 20.
+#[tactic(auto, using(crate::proofs::Most::first_most), unfolding(crate::specs::Settling::second_one))]
 pub fn second_one(v: Vehicle, s: Second, k: SettlingCounts) -> SettlingCounts
     ensures { (result ≡ second_one v s k) × FirstMost }
 {
@@ -251,8 +249,9 @@ pub fn second_one(v: Vehicle, s: Second, k: SettlingCounts) -> SettlingCounts
     settled_one(far, ready_counted(ready(v, Mode::One, s), k))
 }
 
-// A counted second of settling in mode 2.
+// A counted second of settling in mode 2. Its rule differs from mode 1's in more than a number: no second is watched for being out.
 // Ruled out: n that starts at a second more than 15 from target, and n that stops at one.
+#[tactic(auto, using(crate::proofs::Most::next_most), unfolding(crate::specs::Settling::second_two))]
 pub fn second_two(v: Vehicle, s: Second, k: SettlingCounts) -> SettlingCounts
     ensures { (result ≡ second_two v s k) × NextMost }
 {
@@ -260,58 +259,51 @@ pub fn second_two(v: Vehicle, s: Second, k: SettlingCounts) -> SettlingCounts
     settled_two(near, ready_counted(ready(v, Mode::Two, s), k))
 }
 
+#[tactic(auto, unfolding(crate::specs::Measuring::first_speed, refusal::specs::Choice::pick))]
 fn first_speed(t: u8, speed: u16, first: u16) -> u16
     ensures { result ≡ first_speed t speed first }
 {
-    if t == 1 {
-        return speed;
-    }
-    first
+    if t == 1 { speed } else { first }
 }
 
 fn still_held(t: u8, first: u16, speed: u16, held: bool) -> bool
     ensures { result ≡ still_held t first speed held }
 {
-    ((10 < t) | ((first as u32) <= (speed as u32) + 8)) & held
+    ((10 < t) | (u32::from(first) <= u32::from(speed) + 8)) & held
 }
 
 // A measured second, before its window is judged.
 // Ruled out: t that stays, the drop looked at in second 10 alone, and a drop from the second before.
+#[tactic(auto, using(crate::proofs::Runs::counts_told, crate::proofs::Speeds::held_more, crate::proofs::Speeds::held_exactly), unfolding(crate::specs::Measuring::tallied))]
 pub fn tallied(out: bool, speed: u16, k: MeasuringCounts) -> MeasuringCounts
     ensures { (result ≡ tallied out speed k) × CountsTold × HeldMore × HeldExactly }
 {
     let t = bump(k.seconds);
-    let windows = k.windows;
     let first = first_speed(t, speed, k.first);
     MeasuringCounts {
         seconds: t,
         row: in_row(out, k.row),
         all: in_all(out, k.all),
-        windows,
         first,
         held: still_held(t, first, speed, k.held),
-        kept: k.kept,
+        ..k
     }
 }
 
 // A valid window counted, and kept.
 // Ruled out: a window counted as passing and as failing, and one not kept.
+#[tactic(auto, unfolding(crate::specs::Measuring::window_counted))]
 pub fn window_counted(passes: bool, k: MeasuringCounts) -> MeasuringCounts
     ensures { result ≡ window_counted passes k }
 {
-    let c = k.windows;
     let windows = WindowCounts {
-        passing: in_all(passes, c.passing),
-        failing: in_all(!passes, c.failing),
+        passing: in_all(passes, k.windows.passing),
+        failing: in_all(!passes, k.windows.failing),
     };
     MeasuringCounts {
-        seconds: k.seconds,
-        row: k.row,
-        all: k.all,
         windows,
-        first: k.first,
-        held: k.held,
         kept: true,
+        ..k
     }
 }
 
@@ -325,6 +317,7 @@ pub fn restarts(k: MeasuringCounts) -> bool
 
 // The counts of measuring, begun anew where it restarts.
 // Ruled out: a dip of before the restart that is kept, and windows of before it.
+#[tactic(auto, using(crate::proofs::Runs::counts_told), unfolding(crate::specs::Measuring::restarted, refusal::specs::Choice::pick))]
 pub fn restarted(k: MeasuringCounts) -> MeasuringCounts
     ensures { (result ≡ restarted k) × CountsTold }
 {
@@ -334,6 +327,7 @@ pub fn restarted(k: MeasuringCounts) -> MeasuringCounts
     k
 }
 
+#[tactic(auto, unfolding(crate::specs::Ending::at_ninety, refusal::specs::Choice::pick))]
 fn at_ninety(k: WindowCounts) -> Ending
     ensures { result ≡ at_ninety k }
 {
@@ -348,6 +342,7 @@ fn at_ninety(k: WindowCounts) -> Ending
 
 // The ending rule.
 // Ruled out: a pass at t = 24, and a mode that ends at t = 90 with 15 passing.
+#[tactic(auto, using(crate::proofs::Ruled::ruled_exactly), unfolding(crate::specs::Ending::ending_rule, crate::specs::Ending::early_pass, refusal::specs::Choice::pick))]
 pub fn ending_rule(t: u8, k: WindowCounts, held: bool) -> Ending
     ensures { (result ≡ ending_rule t k held) × RuledExactly }
 {

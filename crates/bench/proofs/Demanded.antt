@@ -3,17 +3,16 @@ use Prim.Native.Nat.{ℕ, ◌≤◌}
 use native.Mathlib.Omega.{arith}
 use mathlib.Core.Path.{◌≡◌, refl, ap, sym, ◌∙◌, subst, subst⁻¹}
 use mathlib.Core.List.{List, [], ◌∷◌}
-use mathlib.Core.Option.{Option, none, some}
+use Rattle.std.specs.Prelude.{Some, Ok, None, Option}
 use Rattle.vehicle.specs.Checked.{vehicle_of}
 use Rattle.loaded_test.specs.declared.Test.{Test}
 use Rattle.loaded_test.specs.Laws.{Bounded as TestBounded}
 use Rattle.loaded_test.proofs.Passing.{bounded as test-within}
-use Rattle.bench.specs.declared.Answer.TheVariants as answer
 use Rattle.locks.specs.declared.Event.{Event}
 use Rattle.locks.specs.declared.Event.TheVariants.{Start}
 use Rattle.locks.specs.Accepted.{Accepted, since, latest_of}
 use Rattle.locks.specs.Locks.{verdicts_in, unsent_in}
-use Rattle.bench.specs.History.{History, fresh_history, runs}
+use Rattle.bench.specs.History.{History, fresh_history}
 use Rattle.bench.specs.Causes.{automatic_of}
 use Rattle.bench.specs.Telling.{tell, history_after, history_answers}
 use Rattle.bench.specs.Stepping.{step, fresh_bench}
@@ -34,7 +33,7 @@ unfolding unsent_in since verdicts_in
 fresh_sound limit = record { unsent = omega arith; test = tt }
 
 fresh_summary : (validity limit : ℕ) → summary validity limit fresh_history ≡ fresh_bench validity limit
-unfolding latest_of automatic_of runs test_or
+unfolding latest_of automatic_of test_or
 fresh_summary validity limit = rw fresh_of
 
 module _ (validity limit : ℕ) (fit : limit ≤ 255) where
@@ -70,12 +69,12 @@ module _ (validity limit : ℕ) (fit : limit ≤ 255) where
       ap (λ b. (step b e).answer) (after es fresh_history (fresh_sound limit)) ∙
       ap (λ x. x.answer) (tied validity limit (history_of validity limit es) e fit (sound es))
 
-  follows : (l : List Accepted) (o : Option Test) (t : Test) → o ≡ some t → Runs limit l o → Follows l t
+  follows : (l : List Accepted) (o : Option Test) (t : Test) → o ≡ Some t → Runs limit l o → Follows l t
   follows l o t h r = (subst (Runs limit l) h r).2
 
   passes_earned :
       (es : List Event) (e : Event) (t passing failing : ℕ) →
-      answer_after validity limit es e ≡ answer.Judged (pass t passing failing) →
+      answer_after validity limit es e ≡ Ok (Some (pass t passing failing)) →
       PassEarned (history_of validity limit es).events e t passing failing
   passes_earned es e t passing failing a =
       let h : History = history_of validity limit es in
@@ -100,8 +99,8 @@ module _ (validity limit : ℕ) (fit : limit ≤ 255) where
 
   test_bounded : (l : List Accepted) (o : Option Test) → Runs limit l o → TestBounded (test_or o).progress
   unfolding test_or
-  test_bounded l none r = omega arith
-  test_bounded l (some t) r =
+  test_bounded l None r = omega arith
+  test_bounded l (Some t) r =
       subst⁻¹ (λ (y : Test). TestBounded y.progress) r.2.replayed
       (test-within (vehicle_of r.2.settings r.2.saturation) (inputs_since l))
 

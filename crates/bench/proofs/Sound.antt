@@ -4,9 +4,8 @@ use Prim.Native.Nat.{ℕ, ◌≤◌, ◌<◌}
 use mathlib.Core.Bool.{true}
 use mathlib.Core.Path.{◌≡◌}
 use mathlib.Core.List.{List}
-use mathlib.Core.Option.{Option, none, some}
+use Rattle.std.specs.Prelude.{Ok, Some, None, Option}
 use Rattle.vehicle.specs.declared.Settings.{Settings}
-use Rattle.vehicle.specs.declared.Checked.TheVariants.{Fit}
 use Rattle.vehicle.specs.Checked.{vehicle_of, checked_of}
 use Rattle.loaded_test.specs.declared.Test.{Test}
 use Rattle.loaded_test.specs.Log.{replay, log_of}
@@ -23,15 +22,15 @@ use Rattle.bench.specs.Passes.{Since}
 pub record Follows (l : List Accepted) (t : Test) : Type 0 where
   pub settings : Settings
   pub saturation : ℕ
-  pub fit : checked_of settings saturation ≡ Fit (vehicle_of settings saturation)
+  pub fit : checked_of settings saturation ≡ Ok (vehicle_of settings saturation)
   pub gearbox : automatic_in l ≡ automatic settings
   pub replayed : t ≡ replay (vehicle_of settings saturation) (inputs_since l)
   pub since : Since settings saturation l (log_of (vehicle_of settings saturation) (inputs_since l))
 
 -- What holds of a test or none after the accepted events.
 abbrev pub Runs : ℕ → List Accepted → Option Test → Type 0
-Runs limit l none = Unit {0}
-Runs limit l (some t) = (is_running t.progress.stage ≡ true) × (unsent_in l < limit) × Follows l t
+Runs limit l None = Unit {0}
+Runs limit l (Some t) = (is_running t.progress.stage ≡ true) × (unsent_in l < limit) × Follows l t
 
 pub record Sound (limit : ℕ) (h : History) : Type 0 where
   pub unsent : unsent_in h.events ≤ limit

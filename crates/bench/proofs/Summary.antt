@@ -1,6 +1,6 @@
 -- The bench's state as a function of the plain history. Assumes nothing.
 use Prim.Native.Nat.{ℕ}
-use mathlib.Core.Option.{Option, none, some}
+use Rattle.std.specs.Prelude.{Some, None, Option}
 use Rattle.loaded_test.specs.declared.Test.{Test}
 use Rattle.loaded_test.specs.State.{none_running}
 use Rattle.locks.proofs.Kept.{locks_of}
@@ -10,8 +10,8 @@ use Rattle.bench.specs.History.{History}
 use Rattle.bench.specs.Telling.{Told}
 
 unfoldable pub test_or : Option Test → Test
-test_or none = none_running
-test_or (some t) = t
+test_or None = none_running
+test_or (Some t) = t
 
 abbrev pub summary : ℕ → ℕ → History → Bench
 summary validity limit h = record {

@@ -1,7 +1,6 @@
 -- Demand 3: one claim about the list of events, of any kinds in any order, from a fresh bench of fit V and U.
 -- The bench stands in it only by the answers of its run; what these must be is read from the plain history.
-use Rattle.std.specs.Prelude.{ℕ, ◌≤◌, Bool, true, false, ◌≡◌, ◌↔◌, List, [], ◌∷◌}
-use Rattle.std.proofs.Math.Option.{none, some}
+use Rattle.std.specs.Prelude.{ℕ, ◌≤◌, Bool, true, false, ◌≡◌, ◌↔◌, List, [], ◌∷◌, Some, Ok, Err, is_ok, None}
 use Rattle.refusal.specs.declared.Refusal.{Refusal}
 use Rattle.correction.specs.Humidity.{saturation_fit}
 use Rattle.vehicle.specs.declared.Settings.{Settings}
@@ -9,17 +8,14 @@ use Rattle.vehicle.specs.Settings.{unfit_place}
 use Rattle.loaded_test.specs.declared.Verdict.{Verdict}
 use Rattle.loaded_test.specs.declared.Did.{Did}
 use Rattle.loaded_test.specs.declared.Next.TheVariants.{Ends}
-use Rattle.loaded_test.specs.declared.Answer.TheVariants.{Told}
 use Rattle.loaded_test.specs.declared.Test.{Test}
 use Rattle.loaded_test.specs.Log.{Input, step as test_step}
-use Rattle.bench.specs.declared.Answer.{Answer}
-use Rattle.bench.specs.declared.Answer.TheVariants.{Accepted as AnswerAccepted, Judged, Refused}
 use Rattle.bench.specs.declared.Bench.{Bench}
 use Rattle.locks.specs.declared.Event.{Event}
 use Rattle.locks.specs.declared.Event.TheVariants.{Start}
 use Rattle.locks.specs.Accepted.{Accepted}
 use Rattle.locks.specs.Locks.{not_warm, inactive, not_calibrated, not_signed_in, password_lock, authority_lock, unsent_lock, not_prepared}
-use Rattle.bench.specs.History.{History, fresh_history}
+use Rattle.bench.specs.History.{History, Answer, fresh_history}
 use Rattle.bench.specs.Causes.{Cause, causes, first_cause, automatic_in}
 use Rattle.bench.specs.Telling.{input_of, history_after, history_answers}
 use Rattle.bench.specs.Stepping.{step, fresh_bench}
@@ -44,10 +40,8 @@ abbrev pub history_of : ℕ → ℕ → List Event → History
 history_of validity limit es = history_after validity limit fresh_history es
 
 -- "An accepted one answers so, with its verdict if it brings one".
-unfoldable pub is_accepted : Answer → Bool
-is_accepted AnswerAccepted = true
-is_accepted (Judged x) = true
-is_accepted (Refused r) = false
+abbrev pub is_accepted : Answer → Bool
+is_accepted a = is_ok a
 
 -- No row of the table stands.
 abbrev pub NoneStand : List Cause → Type 0
@@ -70,9 +64,9 @@ pub record Gives (h : History) (e : Event) (x : Verdict) : Type 0 where
   pub test : Test
   pub input : Input
   pub did : Did
-  pub running : h.test ≡ some test
-  pub given : input_of (automatic_in h.events) e ≡ some input
-  pub told : (test_step test input).answer ≡ Told did (Ends x)
+  pub running : h.test ≡ Some test
+  pub given : input_of (automatic_in h.events) e ≡ Some input
+  pub told : (test_step test input).answer ≡ Ok (record { did = did; next = Ends x })
 
 -- Demand 3, for a bench of this V and U.
 pub record Demand3 (validity limit : ℕ) : Type 0 where
@@ -86,13 +80,13 @@ pub record Demand3 (validity limit : ℕ) : Type 0 where
       NoneStand (causes validity limit (history_of validity limit es) e)
   pub refused :
       (es : List Event) (e : Event) (r : Refusal) →
-      (answer_after validity limit es e ≡ Refused r) ↔
-      (first_cause (causes validity limit (history_of validity limit es) e) ≡ some r)
+      (answer_after validity limit es e ≡ Err r) ↔
+      (first_cause (causes validity limit (history_of validity limit es) e) ≡ Some r)
   -- a fit start, in clock order, with no test running, is admitted exactly if none of the eight locks stands
   pub admitted :
       (es : List Event) (clock : ℕ) (settings : Settings) (saturation : ℕ) →
       (history_of validity limit es).last ≤ clock →
-      (history_of validity limit es).test ≡ none →
+      (history_of validity limit es).test ≡ None →
       unfit_place settings ≡ 0 →
       saturation_fit saturation ≡ true →
       (is_accepted (answer_after validity limit es (Start clock settings saturation)) ≡ true) ↔
@@ -100,10 +94,10 @@ pub record Demand3 (validity limit : ℕ) : Type 0 where
   -- a verdict is answered exactly if document 01's steps, taken by the history's test on that event, give it
   pub verdicts :
       (es : List Event) (e : Event) (x : Verdict) →
-      (answer_after validity limit es e ≡ Judged x) ↔
+      (answer_after validity limit es e ≡ Ok (Some x)) ↔
       (NoneStand (causes validity limit (history_of validity limit es) e) × Gives (history_of validity limit es) e x)
   -- a pass answered anywhere in the list is earned by the accepted seconds before it
   pub passes :
       (es : List Event) (e : Event) (t passing failing : ℕ) →
-      answer_after validity limit es e ≡ Judged (pass t passing failing) →
+      answer_after validity limit es e ≡ Ok (Some (pass t passing failing)) →
       PassEarned (history_of validity limit es).events e t passing failing

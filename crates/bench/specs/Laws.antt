@@ -1,8 +1,8 @@
 -- Laws beside demand 3, for a bench of this V and U: what they say of the answers is read from the list of events and from the accepted ones alone.
-use Rattle.std.specs.Prelude.{ℕ, ◌≤◌, ◌<◌, true, ◌≡◌, ◌↔◌, List, [], ◌∷◌, ◌++◌, map, length, take, drop}
-use Rattle.std.proofs.Math.Option.{none, some}
-use Rattle.refusal.specs.Table.{clock_earlier, test_running, start_locked, inertia_unfit, power_unfit, background_unfit}
+use Rattle.refusal.specs.declared.Refusal.TheVariants.{ClockEarlier, TestRunning, StartLocked, InertiaUnfit, PowerUnfit, BackgroundUnfit}
+use Rattle.std.specs.Prelude.{ℕ, ◌≤◌, ◌<◌, true, ◌≡◌, ◌↔◌, List, [], ◌∷◌, ◌++◌, map, length, take, drop, None, Ok, Err, Some}
 use Rattle.refusal.specs.declared.Refusal.{Refusal}
+use Rattle.refusal.specs.Table.{number_of}
 use Rattle.loaded_test.specs.declared.Test.{Test}
 use Rattle.coast_down.specs.declared.Run.{Run}
 use Rattle.coast_down.specs.Claims.{Between}
@@ -14,11 +14,9 @@ use Rattle.locks.specs.Events.{clock_of, clock_after}
 use Rattle.locks.specs.Accepted.{Accepted}
 use Rattle.locks.specs.Claims.{StandsExactly}
 use Rattle.locks.specs.Locks.{not_warm, inactive, not_calibrated, not_signed_in, password_lock, authority_lock, unsent_lock, not_prepared}
-use Rattle.bench.specs.declared.Answer.{Answer}
-use Rattle.bench.specs.declared.Answer.TheVariants.{Accepted as AnswerAccepted, Refused}
 use Rattle.bench.specs.declared.Bench.{Bench}
 use Rattle.bench.specs.declared.Handled.{Handled}
-use Rattle.bench.specs.History.{History}
+use Rattle.bench.specs.History.{History, Answer}
 use Rattle.bench.specs.Causes.{causes}
 use Rattle.bench.specs.Running.{test_in}
 use Rattle.bench.specs.Stepping.{fresh_bench}
@@ -26,7 +24,7 @@ use Rattle.bench.specs.Demand.{bench_answers, answer_after, history_of}
 
 -- "A refused one .. changes nothing": where the answer is a refusal, the bench is the one that was given, whatever its state.
 abbrev pub BackIfRefused : Bench → Handled → Type 0
-BackIfRefused b x = (r : Refusal) → x.answer ≡ Refused r → x.bench ≡ b
+BackIfRefused b x = (r : Refusal) → x.answer ≡ Err r → x.bench ≡ b
 
 -- The last clock: that of the newest accepted event, or its new clock if it is a clock setting; 0 at first.
 unfoldable pub last_clock : List Accepted → ℕ
@@ -52,64 +50,64 @@ pub record LeastLock (validity limit now : ℕ) (l : List Accepted) (n : ℕ) : 
 -- What a coast-down run is answered where its clock and a running test do not refuse it: "16 inertia out of range, then 17 power", and
 -- accepted whatever its time.
 pub record RunAnswered (run : Run) (a : Answer) : Type 0 where
-  pub inertia : (a ≡ Refused inertia_unfit) ↔ (Between 1050 1350 run.inertia → ⊥)
-  pub power : (a ≡ Refused power_unfit) ↔ (Between 1050 1350 run.inertia × (Between 50 325 run.power → ⊥))
-  pub fit : (a ≡ AnswerAccepted) ↔ (Between 1050 1350 run.inertia × Between 50 325 run.power)
+  pub inertia : (a ≡ Err InertiaUnfit) ↔ (Between 1050 1350 run.inertia → ⊥)
+  pub power : (a ≡ Err PowerUnfit) ↔ (Between 1050 1350 run.inertia × (Between 50 325 run.power → ⊥))
+  pub fit : (a ≡ Ok None) ↔ (Between 1050 1350 run.inertia × Between 50 325 run.power)
 
 -- What a prepare is answered where its clock and a running test do not refuse it: "18 .., place the lowest such code", and accepted whether
 -- it stands or not, with any residue.
 pub record PrepareAnswered (check : ZeroCheck) (a : Answer) : Type 0 where
-  pub hc : (a ≡ Refused (background_unfit 4)) ↔ HcAbove check
-  pub co : (a ≡ Refused (background_unfit 5)) ↔ CoAbove check
-  pub no : (a ≡ Refused (background_unfit 6)) ↔ NoAbove check
-  pub fit : (a ≡ AnswerAccepted) ↔ NoneAbove check
+  pub hc : (a ≡ Err (BackgroundUnfit 4)) ↔ HcAbove check
+  pub co : (a ≡ Err (BackgroundUnfit 5)) ↔ CoAbove check
+  pub no : (a ≡ Err (BackgroundUnfit 6)) ↔ NoAbove check
+  pub fit : (a ≡ Ok None) ↔ NoneAbove check
 
 -- For every list of events, of any kinds in any order.
 pub record Laws (validity limit : ℕ) : Type 0 where
   -- an event that is refused might as well not have been given: whatever comes after it is answered as without it
   pub struck :
       (es : List Event) (e : Event) (r : Refusal) (fs : List Event) (f : Event) →
-      answer_after validity limit es e ≡ Refused r →
+      answer_after validity limit es e ≡ Err r →
       answer_after validity limit (es ++ e ∷ fs) f ≡ answer_after validity limit (es ++ fs) f
   -- "Events: 11, 12 or 13, then 4, 5, 15 or 8, then 14.", and "16 .., then 17 .., after 12", "18 .. after 12": the rows, of which the
   -- first that stands refuses
   pub order :
       (h : History) (e : Event) →
-      map (λ c. c.refusal.number) (causes validity limit h e) ≡ 11 ∷ 12 ∷ 13 ∷ 4 ∷ 5 ∷ 15 ∷ 8 ∷ 16 ∷ 17 ∷ 18 ∷ 14 ∷ []
+      map (λ c. number_of c.refusal) (causes validity limit h e) ≡ 11 ∷ 12 ∷ 13 ∷ 4 ∷ 5 ∷ 15 ∷ 8 ∷ 16 ∷ 17 ∷ 18 ∷ 14 ∷ []
   -- "A start is locked by the first standing one"
   pub least :
       (es : List Event) (e : Event) (n : ℕ) →
-      answer_after validity limit es e ≡ Refused (start_locked n) →
+      answer_after validity limit es e ≡ Err (StartLocked n) →
       LeastLock validity limit (clock_of e) (history_of validity limit es).events n
   -- when each of the eight locks stands, in plain words
   pub locks : (now : ℕ) (l : List Accepted) → StandsExactly validity limit now l
   -- 11 is answered exactly when the event's clock is below the last one, whatever its kind
   pub clock :
       (es : List Event) (e : Event) (n : ℕ) →
-      (answer_after validity limit es e ≡ Refused (clock_earlier n)) ↔
+      (answer_after validity limit es e ≡ Err (ClockEarlier n)) ↔
       ((n ≡ last_clock (history_of validity limit es).events) × (clock_of e < n))
   -- a coast-down run in clock order: by its inertia and power where no test runs, refused 12 where one does
   pub coast_down :
       (es : List Event) (clock : ℕ) (run : Run) →
       (history_of validity limit es).last ≤ clock →
-      (history_of validity limit es).test ≡ none →
+      (history_of validity limit es).test ≡ None →
       RunAnswered run (answer_after validity limit es (CoastDown clock run))
   pub coast_down_in_test :
       (es : List Event) (clock : ℕ) (run : Run) (test : Test) →
       (history_of validity limit es).last ≤ clock →
-      (history_of validity limit es).test ≡ some test →
-      answer_after validity limit es (CoastDown clock run) ≡ Refused test_running
+      (history_of validity limit es).test ≡ Some test →
+      answer_after validity limit es (CoastDown clock run) ≡ Err TestRunning
   -- a prepare in clock order: by its background where no test runs, refused 12 where one does
   pub prepare :
       (es : List Event) (clock : ℕ) (check : ZeroCheck) →
       (history_of validity limit es).last ≤ clock →
-      (history_of validity limit es).test ≡ none →
+      (history_of validity limit es).test ≡ None →
       PrepareAnswered check (answer_after validity limit es (Prepare clock check))
   pub prepare_in_test :
       (es : List Event) (clock : ℕ) (check : ZeroCheck) (test : Test) →
       (history_of validity limit es).last ≤ clock →
-      (history_of validity limit es).test ≡ some test →
-      answer_after validity limit es (Prepare clock check) ≡ Refused test_running
+      (history_of validity limit es).test ≡ Some test →
+      answer_after validity limit es (Prepare clock check) ≡ Err TestRunning
   -- the answer at each split of a list is the list's element there
   pub split :
       (es : List Event) (e : Event) (fs : List Event) →

@@ -5,7 +5,7 @@
 
 ghost use Rattle.std.specs.Prelude.{◌≡◌};
 ghost use Rattle.bench.specs.Causes.{inside_test, outside_test};
-ghost use Rattle.bench.specs.Stepping.{fresh_bench, opened_of, step};
+ghost use Rattle.bench.specs.Stepping.{fresh_bench, opened_of, order_check, step};
 ghost use Rattle.bench.specs.Claims.{Opens};
 ghost use Rattle.bench.specs.Laws.{BackIfRefused};
 
@@ -14,18 +14,13 @@ mod taking;
 use crate::taking::{refused, taken};
 pub use coast_down::{Run, SpeedRange};
 use loaded_test::{Test, Verdict};
-use locks::Locks;
+use locks::{Contents, Kind, Locks};
 pub use locks::{Calibration, Event, Try};
 pub use prepare::{Residue, ZeroCheck};
-use refusal::Refusal;
+use refusal::{Check, Refusal};
 
-// The answer to an event: accepted, accepted with a verdict, or refused.
-#[derive(Clone, Copy)]
-pub enum Answer {
-    Accepted,
-    Judged(Verdict),
-    Refused(Refusal),
-}
+// The answer to an event: accepted, with its verdict if it brings one, or refused.
+pub type Answer = Result<Option<Verdict>, Refusal>;
 
 // What a bench keeps beside its test: document 01's V in seconds and U, the last clock, and what the locks are read from.
 #[derive(Clone, Copy)]
@@ -43,46 +38,12 @@ pub struct Bench {
     test: Test,
 }
 
-// A bench after an event.
+// A bench after an event, beside the answer and not in it: the state goes by value, and a refused event gives it back as it was.
 #[derive(Clone, Copy)]
 pub struct Handled {
     pub answer: Answer,
     pub bench: Bench,
 }
-
-#[derive(Clone, Copy)]
-pub enum Opening {
-    Opens,
-    Refused(Refusal),
-}
-
-#[derive(Clone, Copy)]
-pub struct Opened {
-    pub answer: Opening,
-    pub bench: Bench,
-}
-
-// Whether a row of the table refuses a start.
-#[derive(Clone, Copy)]
-pub(crate) enum Ruling {
-    Taken,
-    Refused(Refusal),
-}
-
-const TEST_RUNNING: Refusal = Refusal {
-    number: refusal::TEST_RUNNING,
-    place: 0,
-};
-
-const NO_TEST: Refusal = Refusal {
-    number: refusal::NO_TEST,
-    place: 0,
-};
-
-const PARAMETER_UNFIT: Refusal = Refusal {
-    number: refusal::CAUSE_UNFIT,
-    place: 0,
-};
 
 fn fresh_bench(validity: u32, limit: u16) -> Bench
     ensures { result ≡ fresh_bench validity limit }
@@ -98,67 +59,65 @@ fn fresh_bench(validity: u32, limit: u16) -> Bench
     }
 }
 
-// A fresh bench of V and U, or refusal 15 with a bench that admits no start; with it comes demand 3 about every list of events.
+// A fresh bench of V and U, or refusal 15; with it comes demand 3 about every list of events.
 // Ruled out: U = 256 taken, and a bench that opens with a lock lifted.
-pub fn open(validity: u32, limit: u16) -> Opened
+#[tactic(auto, using(crate::proofs::Lawful::opens), unfolding(crate::specs::Stepping::opened_of, refusal::specs::Choice::pick))]
+pub fn open(validity: u32, limit: u16) -> Result<Bench, Refusal>
     ensures answer { result ≡ opened_of validity limit }
     ensures claims { Opens validity limit }
 {
-    if (1 <= validity) & (validity <= 2_592_000) & ((1 <= limit) & (limit <= 255)) {
-        return Opened {
-            answer: Opening::Opens,
-            bench: fresh_bench(validity, limit),
-        };
+    if (1..=2_592_000).contains(&validity) && (1..=255).contains(&limit) {
+        return Ok(fresh_bench(validity, limit));
     }
-    Opened {
-        answer: Opening::Refused(PARAMETER_UNFIT),
-        bench: fresh_bench(1, 0),
-    }
+    Err(Refusal::CauseUnfit)
 }
 
 // "second or stop"
-fn inside_test(kind: u8) -> bool
+fn inside_test(kind: Kind) -> bool
     ensures { result ≡ inside_test kind }
 {
-    (kind == 10) | (kind == 11)
+    matches!(kind, Kind::Second | Kind::Stop)
 }
 
 // "all but power-on, second, stop"
-fn outside_test(kind: u8) -> bool
+fn outside_test(kind: Kind) -> bool
     ensures { result ≡ outside_test kind }
 {
-    !((kind == 1) | inside_test(kind))
+    !matches!(kind, Kind::PowerOn | Kind::Second | Kind::Stop)
+}
+
+// 11, then 12 or 13: the clock, and whether a test runs. Nested tests: joined by && in one, the last goal did not close.
+#[tactic(auto, using(refusal::proofs::Checks::after_fine, refusal::proofs::Checks::after_refused), unfolding(refusal::specs::Checking::need))]
+fn order_check(bench: Bench, contents: Contents) -> Check
+    ensures { result ≡ order_check bench contents }
+{
+    let last = bench.desk.clock;
+    if contents.clock < last {
+        return Err(Refusal::ClockEarlier(last));
+    }
+    if loaded_test::is_running(bench.test) {
+        if outside_test(contents.kind) {
+            return Err(Refusal::TestRunning);
+        }
+        return Ok(());
+    }
+    if inside_test(contents.kind) {
+        return Err(Refusal::NoTest);
+    }
+    Ok(())
 }
 
 // One event: its answer and the next bench. 11, 12 or 13, then 4, 5, 15, 8, 16, 17 or 18, then 14; a refused event gives back the same
 // bench.
 // Ruled out: a refused event that moves the clock, a start told of its lock before its settings are looked at, 17 for a coast-down run whose
 // inertia is unfit too, and a refused prepare that takes the place of a standing one.
+#[tactic(auto, using(crate::proofs::Refusing::stepped), unfolding(crate::specs::Stepping::step_by))]
 pub fn step(bench: Bench, event: Event) -> Handled
     ensures { (result ≡ step bench event) × BackIfRefused bench result }
 {
-    let test = bench.test;
     let contents = locks::contents_of(event);
-    let kind = contents.kind;
-    let clock = contents.clock;
-    let last = bench.desk.clock;
-    let place = last as usize;
-    let running = loaded_test::is_running(test);
-    if clock < last {
-        return refused(
-            Refusal {
-                number: refusal::CLOCK_EARLIER,
-                place,
-            },
-            bench,
-        );
+    match order_check(bench, contents) {
+        Ok(()) => taken(bench, event, contents.carried),
+        Err(r) => refused(r, bench),
     }
-    if running & outside_test(kind) {
-        return refused(TEST_RUNNING, bench);
-    }
-    if !running & inside_test(kind) {
-        return refused(NO_TEST, bench);
-    }
-    let carried = contents.carried;
-    taken(bench, event, carried)
 }

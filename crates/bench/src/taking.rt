@@ -1,26 +1,18 @@
 // An event that 11, 12 and 13 do not refuse: a start, a second, a stop, or any other.
+// The bench and the event stay two parameters: the definitions take them so, and a struct of both would be made for one call alone.
 ghost use Rattle.std.specs.Prelude.{◌≡◌};
-ghost use Rattle.loaded_test.specs.Steps.{second};
 ghost use Rattle.bench.specs.Stepping.{
   refused,
   desk_after,
-  with_test,
-  with_none,
-  plain_taken,
-  first_refusal,
-  inertia_ruling,
-  power_ruling,
-  run_ruling,
-  background_ruling,
-  service_ruling,
-  service_judged,
-  service_taken,
-  fitness,
-  lock_ruling,
-  start_ruling,
-  start_judged,
-  start_taken,
   gone_on,
+  plain_taken,
+  run_check,
+  background_check,
+  service_check,
+  service_taken,
+  lock_check,
+  start_check,
+  start_taken,
   judged_with,
   followed,
   test_taken,
@@ -29,30 +21,20 @@ ghost use Rattle.bench.specs.Stepping.{
   taken,
 };
 
-use crate::{Answer, Bench, Desk, Handled, Ruling};
+use crate::{Bench, Desk, Handled};
 use coast_down::Run;
-use loaded_test::{Next, Start, Stepped, Test, Verdict};
-use locks::{Carried, Event, Locks, Service};
-use reading::{Converted, Readings, Second};
-use refusal::Refusal;
+use loaded_test::{Next, Stepped, Test, Verdict};
+use locks::{Carried, Event, Lock, Locks, Service};
+use reading::{Channel, Readings};
+use refusal::{Check, Refusal};
 use vehicle::Settings;
-
-const INERTIA_UNFIT: Refusal = Refusal {
-    number: refusal::INERTIA_UNFIT,
-    place: 0,
-};
-
-const POWER_UNFIT: Refusal = Refusal {
-    number: refusal::POWER_UNFIT,
-    place: 0,
-};
 
 // A refused event gives back the same bench.
 pub(crate) fn refused(r: Refusal, bench: Bench) -> Handled
     ensures { result ≡ refused r bench }
 {
     Handled {
-        answer: Answer::Refused(r),
+        answer: Err(r),
         bench,
     }
 }
@@ -61,29 +43,23 @@ fn desk_after(d: Desk, event: Event, locks: Locks) -> Desk
     ensures { result ≡ desk_after d event locks }
 {
     Desk {
-        validity: d.validity,
-        limit: d.limit,
         clock: locks::clock_after(event),
         locks,
+        ..d
     }
 }
 
-fn with_test(d: Desk, event: Event, test: Test) -> Bench
-    ensures { result ≡ with_test d event test }
+// No verdict comes, and this test or none is left.
+fn gone_on(d: Desk, event: Event, test: Test) -> Handled
+    ensures { result ≡ gone_on d event test }
 {
-    let locks = d.locks;
-    Bench {
-        desk: desk_after(d, event, locks::locks_after(locks, event)),
-        test,
-    }
-}
-
-fn with_none(d: Desk, event: Event, locks: Locks) -> Bench
-    ensures { result ≡ with_none d event locks }
-{
-    Bench {
-        desk: desk_after(d, event, locks),
-        test: loaded_test::none_running(),
+    let locks = locks::locks_after(d.locks, event);
+    Handled {
+        answer: Ok(None),
+        bench: Bench {
+            desk: desk_after(d, event, locks),
+            test,
+        },
     }
 }
 
@@ -91,166 +67,84 @@ fn with_none(d: Desk, event: Event, locks: Locks) -> Bench
 fn plain_taken(d: Desk, event: Event) -> Handled
     ensures { result ≡ plain_taken d event }
 {
-    let locks = d.locks;
-    Handled {
-        answer: Answer::Accepted,
-        bench: with_none(d, event, locks::locks_after(locks, event)),
-    }
-}
-
-fn first_refusal(x: Ruling, y: Ruling) -> Ruling
-    ensures { result ≡ first_refusal x y }
-{
-    match x {
-        Ruling::Taken => y,
-        Ruling::Refused(r) => Ruling::Refused(r),
-    }
-}
-
-fn inertia_ruling(inertia: u16) -> Ruling
-    ensures { result ≡ inertia_ruling inertia }
-{
-    let fit = coast_down::inertia_fit(inertia);
-    if fit {
-        return Ruling::Taken;
-    }
-    Ruling::Refused(INERTIA_UNFIT)
-}
-
-fn power_ruling(power: u16) -> Ruling
-    ensures { result ≡ power_ruling power }
-{
-    let fit = coast_down::power_fit(power);
-    if fit {
-        return Ruling::Taken;
-    }
-    Ruling::Refused(POWER_UNFIT)
+    gone_on(d, event, loaded_test::none_running())
 }
 
 // "16 inertia out of range, then 17 power"
-fn run_ruling(run: Run) -> Ruling
-    ensures { result ≡ run_ruling run }
+#[tactic(auto, using(refusal::proofs::Checks::after_fine, refusal::proofs::Checks::after_refused), unfolding(refusal::specs::Checking::need))]
+fn run_check(run: Run) -> Check
+    ensures { result ≡ run_check run }
 {
-    let inertia = inertia_ruling(run.inertia);
-    let power = power_ruling(run.power);
-    first_refusal(inertia, power)
+    if !coast_down::inertia_fit(run.inertia) {
+        return Err(Refusal::InertiaUnfit);
+    }
+    if !coast_down::power_fit(run.power) {
+        return Err(Refusal::PowerUnfit);
+    }
+    Ok(())
 }
 
 // "18 a prepare with a background value above its channel's greatest, place the lowest such code"
-fn background_ruling(code: u8) -> Ruling
-    ensures { result ≡ background_ruling code }
+// Alike with the lock's check below, but each is a row of the table of its own.
+fn background_check(above: Option<Channel>) -> Check
+    ensures { result ≡ background_check above }
 {
-    if code == 0 {
-        return Ruling::Taken;
+    match above {
+        Some(channel) => Err(Refusal::BackgroundUnfit(channel.code())),
+        None => Ok(()),
     }
-    Ruling::Refused(Refusal {
-        number: refusal::BACKGROUND_UNFIT,
-        place: code as usize,
-    })
 }
 
-fn service_ruling(x: Service) -> Ruling
-    ensures { result ≡ service_ruling x }
+// Of the events that are no start, second or stop, a coast-down run and a prepare alone can be unfit.
+fn service_check(x: Service) -> Check
+    ensures { result ≡ service_check x }
 {
     match x {
-        Service::Nothing => Ruling::Taken,
-        Service::NewClock(_) => Ruling::Taken,
-        Service::Outcome(_) => Ruling::Taken,
-        Service::Tried(_) => Ruling::Taken,
-        Service::Ran(run) => run_ruling(run),
-        Service::Prepared(check) => background_ruling(prepare::above_greatest(check)),
+        Service::Ran(run) => run_check(run),
+        Service::Prepared(check) => background_check(prepare::above_greatest(check)),
+        Service::Nothing | Service::NewClock(_) | Service::Outcome(_) | Service::Tried(_) => Ok(()),
     }
 }
 
-fn service_judged(ruling: Ruling, bench: Bench, event: Event) -> Handled
-    ensures { result ≡ service_judged ruling bench event }
-{
-    let desk = bench.desk;
-    match ruling {
-        Ruling::Taken => plain_taken(desk, event),
-        Ruling::Refused(r) => refused(r, bench),
-    }
-}
-
-// An event that is no start, second or stop: of these a coast-down run and a prepare alone can be unfit.
+// An event that is no start, second or stop.
+#[tactic(auto, unfolding(crate::specs::Stepping::service_taken))]
 fn service_taken(bench: Bench, event: Event, x: Service) -> Handled
     ensures { result ≡ service_taken bench event x }
 {
-    let ruling = service_ruling(x);
-    service_judged(ruling, bench, event)
-}
-
-// 4 or 5, as the test's beginning tells.
-fn fitness(start: Start) -> Ruling
-    ensures { result ≡ fitness start }
-{
-    match start {
-        Start::Begins => Ruling::Taken,
-        Start::Refused(r) => Ruling::Refused(r),
+    match service_check(x) {
+        Ok(()) => plain_taken(bench.desk, event),
+        Err(r) => refused(r, bench),
     }
 }
 
-// 14, by the number of the first lock.
-fn lock_ruling(lock: u8) -> Ruling
-    ensures { result ≡ lock_ruling lock }
+// 14, by the first lock.
+#[tactic(auto, unfolding(refusal::specs::Checking::need))]
+fn lock_check(lock: Option<Lock>) -> Check
+    ensures { result ≡ lock_check lock }
 {
-    if lock == 0 {
-        return Ruling::Taken;
-    }
-    Ruling::Refused(Refusal {
-        number: refusal::START_LOCKED,
-        place: lock as usize,
-    })
-}
-
-fn start_ruling(start: Start, d: Desk, now: u32) -> Ruling
-    ensures { result ≡ start_ruling start d now }
-{
-    let locks = d.locks;
-    let lock = locks::lock_number(d.validity, d.limit, locks, now);
-    let fit = fitness(start);
-    let free = lock_ruling(lock);
-    first_refusal(fit, free)
-}
-
-fn admitted(bench: Bench, event: Event, test: Test) -> Handled
-    ensures { result ≡ start_judged Ruling.Taken bench event test }
-{
-    let desk = bench.desk;
-    Handled {
-        answer: Answer::Accepted,
-        bench: with_test(desk, event, test),
+    match lock {
+        Some(lock) => Err(Refusal::StartLocked(lock.number())),
+        None => Ok(()),
     }
 }
 
-fn start_judged(ruling: Ruling, bench: Bench, event: Event, test: Test) -> Handled
-    ensures { result ≡ start_judged ruling bench event test }
+// "then 4, 5 .., then 14": the test that begins.
+fn start_check(d: Desk, now: u32, settings: Settings, saturation: u16) -> Result<Test, Refusal>
+    ensures { result ≡ start_check d now settings saturation }
 {
-    match ruling {
-        Ruling::Taken => admitted(bench, event, test),
-        Ruling::Refused(r) => refused(r, bench),
-    }
+    let test = loaded_test::begin(settings, saturation)?;
+    lock_check(locks::first_lock(d.validity, d.limit, d.locks, now))?;
+    Ok(test)
 }
 
 // A start where no test runs.
+#[tactic(auto, unfolding(crate::specs::Stepping::start_taken))]
 fn start_taken(bench: Bench, event: Event, settings: Settings, saturation: u16) -> Handled
     ensures { result ≡ start_taken bench event settings saturation }
 {
-    let begun = loaded_test::begin(settings, saturation);
-    let start = begun.answer;
-    let test = begun.test;
-    let desk = bench.desk;
-    let ruling = start_ruling(start, desk, locks::clock_of(event));
-    start_judged(ruling, bench, event, test)
-}
-
-// The test goes on.
-fn gone_on(d: Desk, event: Event, test: Test) -> Handled
-    ensures { result ≡ gone_on d event test }
-{
-    Handled {
-        answer: Answer::Accepted,
-        bench: with_test(d, event, test),
+    match start_check(bench.desk, locks::clock_of(event), settings, saturation) {
+        Ok(test) => gone_on(bench.desk, event, test),
+        Err(r) => refused(r, bench),
     }
 }
 
@@ -258,14 +152,13 @@ fn gone_on(d: Desk, event: Event, test: Test) -> Handled
 fn judged_with(d: Desk, event: Event, verdict: Verdict) -> Handled
     ensures { result ≡ judged_with d event verdict }
 {
-    let locks = d.locks;
+    let locks = locks::verdict_counted(locks::locks_after(d.locks, event));
     Handled {
-        answer: Answer::Judged(verdict),
-        bench: with_none(
-            d,
-            event,
-            locks::verdict_counted(locks::locks_after(locks, event)),
-        ),
+        answer: Ok(Some(verdict)),
+        bench: Bench {
+            desk: desk_after(d, event, locks),
+            test: loaded_test::none_running(),
+        },
     }
 }
 
@@ -273,11 +166,8 @@ fn followed(next: Next, d: Desk, event: Event, test: Test) -> Handled
     ensures { result ≡ followed next d event test }
 {
     match next {
-        Next::GoesOn => gone_on(d, event, test),
-        Next::Rests => gone_on(d, event, test),
-        Next::RestEnded => gone_on(d, event, test),
-        Next::ModeTwo => gone_on(d, event, test),
         Next::Ends(verdict) => judged_with(d, event, verdict),
+        Next::GoesOn | Next::Rests | Next::RestEnded | Next::ModeTwo => gone_on(d, event, test),
     }
 }
 
@@ -285,39 +175,29 @@ fn followed(next: Next, d: Desk, event: Event, test: Test) -> Handled
 fn test_taken(stepped: Stepped, bench: Bench, event: Event) -> Handled
     ensures { result ≡ test_taken stepped bench event }
 {
-    let answer = stepped.answer;
-    let test = stepped.test;
-    let desk = bench.desk;
-    match answer {
-        loaded_test::Answer::Told(_, next) => followed(next, desk, event, test),
-        loaded_test::Answer::Refused(r) => refused(r, bench),
+    match stepped.answer {
+        Ok(told) => followed(told.next, bench.desk, event, stepped.test),
+        Err(r) => refused(r, bench),
     }
-}
-
-fn second_fit(s: Second, bench: Bench, event: Event) -> Handled
-    ensures { result ≡ test_taken (second bench.test s) bench event }
-{
-    let test = bench.test;
-    test_taken(loaded_test::second(test, s), bench, event)
 }
 
 // A second where a test runs: 8, then the test's step.
+#[tactic(auto, unfolding(crate::specs::Stepping::second_taken))]
 fn second_taken(bench: Bench, event: Event, readings: Readings) -> Handled
     ensures { result ≡ second_taken bench event readings }
 {
-    let test = bench.test;
-    match reading::second_of(readings, loaded_test::is_automatic(test)) {
-        Converted::Fit(s) => second_fit(s, bench, event),
-        Converted::Refused(r) => refused(r, bench),
+    match reading::second_of(readings, loaded_test::is_automatic(bench.test)) {
+        Ok(s) => test_taken(loaded_test::second(bench.test, s), bench, event),
+        Err(r) => refused(r, bench),
     }
 }
 
-// A stop where a test runs.
+// A stop where a test runs, by the number that was sent.
+#[tactic(auto, unfolding(crate::specs::Stepping::stop_taken))]
 fn stop_taken(bench: Bench, event: Event, cause: u8) -> Handled
     ensures { result ≡ stop_taken bench event cause }
 {
-    let test = bench.test;
-    test_taken(loaded_test::stop(test, cause), bench, event)
+    test_taken(loaded_test::stop(bench.test, cause), bench, event)
 }
 
 pub(crate) fn taken(bench: Bench, event: Event, carried: Carried) -> Handled

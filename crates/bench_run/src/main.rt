@@ -5,27 +5,24 @@
 mod input;
 mod output;
 
-use crate::input::Found;
-use bench::Opening;
 use std::io;
 use std::io::{BufReader, BufWriter, Read, Write};
 
 // The bench from its opening on, until the events end.
 fn run(input: &mut impl Read, output: &mut impl Write) -> io::Result<()> {
-    let validity = input::long(input)?;
-    let limit = input::short(input)?;
-    let opened = bench::open(validity, limit);
-    if let Opening::Refused(r) = opened.answer {
-        return output::refused(output, r);
-    }
-    let mut state = opened.bench;
+    let validity = inputs::long(input)?;
+    let limit = inputs::short(input)?;
+    let mut bench = match bench::open(validity, limit) {
+        Ok(fresh) => fresh,
+        Err(r) => return writeln!(output, "{r}"),
+    };
     for _ in 0..1_000_000 {
-        let Found::Event(event) = input::next(input)? else {
+        let Some(event) = input::next(input)? else {
             break;
         };
-        let handled = bench::step(state, event);
+        let handled = bench::step(bench, event);
         output::line(output, handled.answer)?;
-        state = handled.bench;
+        bench = handled.bench;
     }
     Ok(())
 }

@@ -1,6 +1,6 @@
 -- A run passes exactly if it is within 7 percent, said in fractions and in whole numbers, and the annex's formula reduces. Assumes nothing.
-use Prim.Native.Nat.{ℕ, ◌+◌, ◌-◌, ◌*◌, ◌^◌, ◌≤◌, ◌<◌}
-use native.Mathlib.Nat.{zero-mul, mul-zero, zero-add, add-zero, one-mul, mul-one, mul-le-mul, mul-le-mul_right, le_of_mul-le-mul_right}
+use Prim.Native.Nat.{ℕ, ◌+◌, ◌-◌, ◌*◌, ◌≤◌, ◌<◌}
+use native.Mathlib.Nat.{zero-mul, mul-zero, zero-add, add-zero, one-mul, mul-one, mul-le-mul_right, le_of_mul-le-mul_right}
 use native.Mathlib.Omega.{arith}
 use mathlib.Core.Bool.{Bool, true, ◌&&◌}
 use mathlib.Core.Path.{◌≡◌, ap, sym, ◌∙◌}
@@ -115,7 +115,3 @@ run_claims = record { passes = λ r. record { within = within r; whole = passes_
         let w = within_whole (nominal r).over (nominal r).under r.power r.milliseconds _
         (under r.speeds r.inertia r.power) (whole_over r.speeds r.inertia r.power) pos in
         ((λ h. w.1 ((passes_whole r).0 h)), (λ h. (passes_whole r).1 (w.0 h)))
-
--- Nothing overflows 64 bits, whatever the inertia, the power and the time.
-pub time_fits : (q ms : ℕ) → q < 2 ^ 16 → ms < 2 ^ 32 → 8100 * q * ms < 2 ^ 64
-time_fits q ms hq hm = omega (arith, mul-le-mul {n₁ = q} {m₁ = ms} {n₂ = 2 ^ 16} {m₂ = 2 ^ 32} (omega arith) (omega arith))

@@ -27,7 +27,7 @@ pub struct Run {
 pub fn inertia_fit(inertia: u16) -> bool
     ensures { (result ≡ inertia_fit inertia) × InertiaExactly }
 {
-    (1_050 <= inertia) & (inertia <= 1_350)
+    (1_050..=1_350).contains(&inertia)
 }
 
 // Power in 0.01 kW: 50 to 325.
@@ -35,7 +35,7 @@ pub fn inertia_fit(inertia: u16) -> bool
 pub fn power_fit(power: u16) -> bool
     ensures { (result ≡ power_fit power) × PowerExactly }
 {
-    (50 <= power) & (power <= 325)
+    (50..=325).contains(&power)
 }
 
 // The nominal time in milliseconds, times 81 times the power.
@@ -43,8 +43,8 @@ fn whole_nominal(speeds: SpeedRange, inertia: u16) -> u32
     ensures { result ≡ whole_nominal speeds inertia }
 {
     match speeds {
-        SpeedRange::Faster => 40_000 * (inertia as u32),
-        SpeedRange::Slower => 25_000 * (inertia as u32),
+        SpeedRange::Faster => 40_000 * u32::from(inertia),
+        SpeedRange::Slower => 25_000 * u32::from(inertia),
     }
 }
 
@@ -54,8 +54,7 @@ fn whole_nominal(speeds: SpeedRange, inertia: u16) -> u32
 pub fn run_passed(run: Run) -> bool
     ensures { (result ≡ run_passed run) × RunClaims }
 {
-    let speeds = run.speeds;
-    let nominal = whole_nominal(speeds, run.inertia) as u64;
-    let time = 8_100 * (run.power as u64) * (run.milliseconds as u64);
-    (93 * nominal <= time) & (time <= 107 * nominal)
+    let nominal = u64::from(whole_nominal(run.speeds, run.inertia));
+    let time = 8_100 * u64::from(run.power) * u64::from(run.milliseconds);
+    (93 * nominal..=107 * nominal).contains(&time)
 }

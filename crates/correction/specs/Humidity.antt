@@ -1,9 +1,7 @@
 -- The humidity correction k_H (document 01, "Corrections"; 004, annex AB2), and the ranges of what it is worked out from.
-use Rattle.std.specs.Prelude.{ℕ, ◌-◌, ◌*◌, ◌^◌, Bool, ◌&&◌, leb}
+use Rattle.std.specs.Prelude.{ℕ, ◌-◌, ◌*◌, ◌^◌, Bool, ◌&&◌, leb, Some, None, Option}
 use Rattle.refusal.specs.Choice.{pick}
 use Rattle.correction.specs.Rounding.{half_up}
-use Rattle.correction.specs.declared.Factor.{Factor}
-use Rattle.correction.specs.declared.Factor.TheVariants.{Millionths, Unfit}
 
 -- "humidity 0 to 100"
 abbrev pub humidity_fit : ℕ → Bool
@@ -30,5 +28,5 @@ unfoldable pub k_h : ℕ → ℕ → ℕ → ℕ
 k_h r b p = half_up (10 ^ 12 * dry_pressure r b p) (humidity_divisor r b p)
 
 -- k_H where r, B and p are within their ranges; elsewhere there is none.
-unfoldable pub humidity_factor : ℕ → ℕ → ℕ → Factor
-humidity_factor r b p = pick (humidity_fit r && (pressure_fit b && saturation_fit p)) (Millionths (k_h r b p)) Unfit
+unfoldable pub humidity_factor : ℕ → ℕ → ℕ → Option ℕ
+humidity_factor r b p = pick (humidity_fit r && (pressure_fit b && saturation_fit p)) (Some (k_h r b p)) None

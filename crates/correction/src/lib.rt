@@ -1,6 +1,6 @@
 // The dilution sum, the dilution correction DCF and the humidity correction k_H of document 01's "Corrections", in whole
-// numbers. Exports: dilution_sum, dcf, Factor, humidity_factor, the range of a saturation pressure, and half_up, the rounding
-// of every quotient that is rounded to the unit.
+// numbers. Exports: dilution_sum, dcf, humidity_factor, the range of a saturation pressure, and half_up, the rounding
+// of every quotient that is rounded to the unit. A factor is cast to its narrower type where it is proved to fit.
 
 #![tactic(auto)]
 
@@ -16,13 +16,6 @@ ghost use Rattle.correction.specs.Humidity.{
 ghost use Rattle.correction.specs.Claims.{DilutionClaims, HumidityClaims};
 
 use reading::{Hundredths, Tenths};
-
-// k_H in millionths, or none where a setting or p is outside its range.
-#[derive(Clone, Copy)]
-pub enum Factor {
-    Millionths(u32),
-    Unfit,
-}
 
 // a/b rounded half up, for all numbers of 64 bits; 0 where b is 0. With it comes the claim that every quotient is so rounded.
 // Ruled out: 1/2 giving 0, and 2a + b wrapping for a large a.
@@ -57,21 +50,14 @@ fn dilution_divisor(co2: Tenths, co: Hundredths) -> u64
 
 // DCF in millionths, for every pair of counts. With it come the claims that it is annex AB1's fraction and that it is held.
 // Ruled out: a quotient rounded down, and a DCF above 3 where there is little or no carbon.
+#[tactic(auto, using(crate::proofs::Reduced::dilution_claims), unfolding(crate::specs::Dilution::dcf_of, refusal::specs::Choice::pick))]
 pub fn dcf(co2: Tenths, co: Hundredths) -> u32
     ensures { (result ≡ dcf_of co2 co) × DilutionClaims }
 {
-    let d = dilution_divisor(co2, co);
-    if d == 0 {
-        return 3_000_000;
+    match dilution_divisor(co2, co) {
+        0 => 3_000_000,
+        d => half_up(10_000_000_000_000, d).clamp(1_000_000, 3_000_000) as u32,
     }
-    let quotient = half_up(10_000_000_000_000, d);
-    if 3_000_000 < quotient {
-        return 3_000_000;
-    }
-    if quotient < 1_000_000 {
-        return 1_000_000;
-    }
-    quotient as u32
 }
 
 // Humidity in %: 0 to 100.
@@ -85,7 +71,7 @@ fn humidity_fit(humidity: u16) -> bool
 fn pressure_fit(pressure: u16) -> bool
     ensures { result ≡ pressure_fit pressure }
 {
-    (800 <= pressure) & (pressure <= 1_100)
+    (800..=1_100).contains(&pressure)
 }
 
 // Saturation pressure in Pa: 500 to 4300.
@@ -93,17 +79,17 @@ fn pressure_fit(pressure: u16) -> bool
 pub fn saturation_fit(saturation: u16) -> bool
     ensures { result ≡ saturation_fit saturation }
 {
-    (500 <= saturation) & (saturation <= 4_300)
+    (500..=4_300).contains(&saturation)
 }
 
 // k_H in millionths from humidity r, pressure B and saturation pressure p, each tested here. With it come the claims that it is annex
 // AB2's fraction, that its divisor is above zero and how large it is at most.
 // Ruled out: k worked out from a humidity of 101, and 10^12·E wrapping at B = 1100.
-pub fn humidity_factor(humidity: u16, pressure: u16, saturation: u16) -> Factor
+pub fn humidity_factor(humidity: u16, pressure: u16, saturation: u16) -> Option<u32>
     ensures { (result ≡ humidity_factor humidity pressure saturation) × HumidityClaims }
 {
     if !(humidity_fit(humidity) & (pressure_fit(pressure) & saturation_fit(saturation))) {
-        return Factor::Unfit;
+        return None;
     }
     let vapour = (humidity as u64) * (saturation as u64);
     let dry = 10_000 * (pressure as u64) - vapour;
@@ -111,5 +97,5 @@ pub fn humidity_factor(humidity: u16, pressure: u16, saturation: u16) -> Factor
         1_000_000_000_000 * dry,
         1_352_359 * dry - 20_434_190 * vapour,
     );
-    Factor::Millionths(k as u32)
+    Some(k as u32)
 }

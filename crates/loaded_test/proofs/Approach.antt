@@ -25,7 +25,7 @@ use Rattle.loaded_test.specs.State.{emptied, turn, with_counted, with_resting, w
 use Rattle.attempt.specs.Counting.{in_row, row_of, all_of}
 use Rattle.loaded_test.specs.Rest.{rest_count, rested}
 use Rattle.attempt.specs.Settling.{second_one, second_two}
-use Rattle.attempt.proofs.Tests.{or_left}
+use Rattle.std.proofs.lemmas.Bool.{or_parts}
 use Rattle.attempt.specs.Laws.{Settled}
 use Rattle.attempt.proofs.Most.{row_most, first_most, next_most}
 use Rattle.loaded_test.specs.Settling.{measuring_from, settling_left, closed_one, closed_two, settles_in, settles}
@@ -186,7 +186,7 @@ module _ (v : Vehicle) (i : Input) (log : List Entry) (last : List window.Measur
       let k = second_one v s p.settling in
       let h : Settled 25 k = first_most v s p.settling (omega arith) bounds.ready bounds.row bounds.all in
       left_good _ _ k p stage told bounds most least attempt counting h.row h.all
-      (λ e. let f : k.ready < 11 = leb-false _ _ (or_left (leb 11 k.ready) (eqb k.seconds 25 && leb 5 k.ready) e) in omega arith)
+      (λ e. let f : k.ready < 11 = leb-false _ _ (or_parts (leb 11 k.ready) (eqb k.seconds 25 && leb 5 k.ready) e).0 in omega arith)
       (λ e. let f : k.seconds ≡ 25 → ⊥ = eqb-false _ _ e in omega arith)
       h.seconds h.ready (omega arith)
   settles_in_lem s Two p mode stage told bounds most least attempt counting =

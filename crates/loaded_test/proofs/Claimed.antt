@@ -4,8 +4,8 @@ use mathlib.Core.Bool.{Bool, true, false}
 use mathlib.Core.Path.{◌≡◌, refl}
 use lib.Dec.{leb}
 use borrow.Author.Tests.{le-leb, leb-true}
-use Rattle.refusal.specs.Table.{no_test}
-use Rattle.attempt.proofs.Tests.{and_left, and_right}
+use Rattle.refusal.specs.declared.Refusal.TheVariants.{NoTest}
+use Rattle.std.proofs.lemmas.Bool.{and_parts}
 use Rattle.loaded_test.specs.declared.Test.{Test}
 use Rattle.loaded_test.specs.State.{refused}
 use Rattle.loaded_test.specs.Going.{is_running}
@@ -24,10 +24,10 @@ not_fit : (n : ℕ) → (1 ≤ n → n ≤ 4 → ⊥) → cause_fit n ≡ false
 not_fit n h = go (cause_fit n) refl
   where
     go : (b : Bool) → cause_fit n ≡ b → cause_fit n ≡ false
-    go true e = absurd (h (leb-true _ _ (and_left (leb 1 n) (leb n 4) e)) (leb-true _ _ (and_right (leb 1 n) (leb n 4) e)))
+    go true e = absurd (h (leb-true _ _ (and_parts (leb 1 n) (leb n 4) e).0) (leb-true _ _ (and_parts (leb 1 n) (leb n 4) e).1))
     go false e = e
 
-idle : (x : Test) (i : Input) → is_running x.progress.stage ≡ false → step x i ≡ refused no_test x
+idle : (x : Test) (i : Input) → is_running x.progress.stage ≡ false → step x i ≡ refused NoTest x
 idle x (a_second s) e = second_idle x s e
 idle x (a_stop n) e = stop_idle x n e
 

@@ -4,8 +4,8 @@ use Prim.Native.Nat.{ℕ}
 use mathlib.Core.Bool.{Bool, true, false, not, ◌||◌, true≢false}
 use mathlib.Core.Path.{◌≡◌, refl, sym, ap, ◌∙◌, subst}
 use lib.Dec.{eqb}
+use Rattle.refusal.specs.declared.Refusal.TheVariants.{NoTest, CauseUnfit}
 use Rattle.refusal.specs.Choice.{pick}
-use Rattle.refusal.specs.Table.{no_test, cause_unfit}
 use Rattle.refusal.proofs.Picked.{on_pick}
 use Rattle.reading.specs.declared.Second.{Second}
 use Rattle.vehicle.specs.declared.Vehicle.{Vehicle}
@@ -41,15 +41,15 @@ use Rattle.loaded_test.proofs.Voiding.{same_end}
 
 -- After a turn the test runs, but where the turn tells a verdict: then it has ended, with that word and those counts.
 record Level (x : Turn) : Type 0 where
-  stage : is_running x.progress.stage ≡ not (ends_in x.next)
+  stage : is_running x.progress.stage ≡ not (ends_in x.told.next)
   verdict :
       (v : Verdict) →
-      x.next ≡ Ends v →
+      x.told.next ≡ Ends v →
       (x.progress.stage ≡ Ended v.word) × (v ≡ verdict_of v.word x.progress.measuring)
 
 -- No verdict is told, and the test runs.
 open_level :
-    (x : Turn) → is_running x.progress.stage ≡ true → ends_in x.next ≡ false → Level x
+    (x : Turn) → is_running x.progress.stage ≡ true → ends_in x.told.next ≡ false → Level x
 unfolding ends_in
 open_level x e f = record { stage = rw (e, f); verdict = λ v q. absurd (true≢false (sym (ap ends_in q) ∙ f)) }
 
@@ -62,7 +62,7 @@ ended_level d w k p = record {
 }
 
 turned : (x : Test) (y : Turn) → Level y → Goes (stepped x y)
-turned x y h = record { did = y.did; next = y.next; told = refl; stage = h.stage; verdict = h.verdict }
+turned x y h = record { told = y.told; taken = refl; stage = h.stage; verdict = h.verdict }
 
 mode_level : (m : Mode) (d : Did) (k : VoidCounts) (p : Progress) → Level (mode_ended m d k p)
 unfolding mode_ended is_running ends_in
@@ -116,7 +116,7 @@ module _ (p : Progress) (running : is_running p.stage ≡ true) where
   measures_goes x m k =
       on_pick Goes (restarts k) _ _
       (λ _. turned x _ (five_level _ _ running))
-      (λ _. let h = closed_level _ _ in record { did = _; next = _; told = refl; stage = h.stage; verdict = h.verdict })
+      (λ _. let h = closed_level _ _ in record { told = _; taken = refl; stage = h.stage; verdict = h.verdict })
 
 -- What a second of a test that runs comes to, from what step 4 makes of it.
 attempt_goes :
@@ -153,12 +153,12 @@ stop_goes x n f e = rw (e, f) (turned x _ (stop_level x.progress e _ n))
 
 -- A stop of an unfit cause is refused 15 by a test that runs.
 pub stop_refused_lem :
-    (x : Test) (n : ℕ) → cause_fit n ≡ false → is_running x.progress.stage ≡ true → stop x n ≡ refused cause_unfit x
+    (x : Test) (n : ℕ) → cause_fit n ≡ false → is_running x.progress.stage ≡ true → stop x n ≡ refused CauseUnfit x
 unfolding stop pick
 stop_refused_lem x n f e = rw (e, f)
 
 -- A second is refused 13 by a test that does not run.
-idle_at : (x : Test) (s : Second) (st : Stage) → is_running st ≡ false → second_at st x s ≡ refused no_test x
+idle_at : (x : Test) (s : Second) (st : Stage) → is_running st ≡ false → second_at st x s ≡ refused NoTest x
 unfolding second_at is_running
 idle_at x s NotBegun e = refl
 idle_at x s Settling e = absurd (true≢false e)
@@ -166,12 +166,12 @@ idle_at x s Measuring e = absurd (true≢false e)
 idle_at x s Rest e = absurd (true≢false e)
 idle_at x s (Ended w) e = refl
 
-pub second_idle : (x : Test) (s : Second) → is_running x.progress.stage ≡ false → second x s ≡ refused no_test x
+pub second_idle : (x : Test) (s : Second) → is_running x.progress.stage ≡ false → second x s ≡ refused NoTest x
 unfolding second
 second_idle x s e = idle_at x s x.progress.stage e
 
 -- So is a stop, of whatever cause.
-pub stop_idle : (x : Test) (n : ℕ) → is_running x.progress.stage ≡ false → stop x n ≡ refused no_test x
+pub stop_idle : (x : Test) (n : ℕ) → is_running x.progress.stage ≡ false → stop x n ≡ refused NoTest x
 unfolding stop pick
 stop_idle x n e = rw e
 

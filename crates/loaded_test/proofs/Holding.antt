@@ -121,7 +121,7 @@ pub record Claims (v : Vehicle) (log : List Entry) : Type 0 where
   pub fail : FailClaim log
 
 abbrev pub entry : Input → Turn → Entry
-entry i x = record { input = i; did = x.did; next = x.next }
+entry i x = record { input = i; did = x.told.did; next = x.told.next }
 
 -- A turn is good where, told as the newest entry, it leaves all this standing.
 pub record Good (v : Vehicle) (i : Input) (log : List Entry) (last : List Measured) (x : Turn) : Type 0 where

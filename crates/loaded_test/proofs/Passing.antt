@@ -8,7 +8,7 @@ use lib.Dec.{eqb}
 use lib.ListN.{length, take, length-take}
 use lib.Seq.{take_all, take-take, take-append-le}
 use borrow.Author.Tests.{eqb-true}
-use Rattle.refusal.specs.Table.{no_test, cause_unfit}
+use Rattle.refusal.specs.declared.Refusal.TheVariants.{NoTest, CauseUnfit}
 use Rattle.refusal.specs.declared.Refusal.{Refusal}
 use Rattle.refusal.proofs.Picked.{on_pick}
 use Rattle.reading.specs.declared.Second.{Second}
@@ -162,7 +162,7 @@ module _ (x : Test) (log : List Entry) where
   second_at_lem s Rest e h k =
       kept_turn x.vehicle (a_second s) log x.last x.window _
       (rest_good x.vehicle (a_second s) log x.last s x.progress e h.told h.bounds)
-  second_at_lem s (Ended w) e h k = refused_kept (a_second s) no_test k
+  second_at_lem s (Ended w) e h k = refused_kept (a_second s) NoTest k
 
   -- A stop that an open test takes.
   stop_taken_lem :
@@ -212,8 +212,8 @@ module _ (x : Test) (log : List Entry) where
       on_pick (Kept x.vehicle (a_stop n) log) (is_running x.progress.stage) _ _
       (λ e. on_pick (Kept x.vehicle (a_stop n) log) (cause_fit n) _ _
       (λ _. kept_turn x.vehicle (a_stop n) log x.last x.window _ (stop_at n x.progress.stage refl h.stage e))
-      (λ _. refused_kept (a_stop n) cause_unfit h))
-      (λ _. refused_kept (a_stop n) no_test h)
+      (λ _. refused_kept (a_stop n) CauseUnfit h))
+      (λ _. refused_kept (a_stop n) NoTest h)
 
   step_good : (i : Input) → Stands x.vehicle log x → Kept x.vehicle i log (step x i)
   unfolding second

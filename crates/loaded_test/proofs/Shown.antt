@@ -6,6 +6,8 @@ use mathlib.Core.Path.{◌≡◌, refl, sym, ap, ◌∙◌, subst, subst⁻¹}
 use mathlib.Core.List.{List, [], ◌∷◌, map}
 use lib.ListN.{length, take, drop}
 use lib.Seq.{length-take-le}
+use Rattle.std.specs.Prelude.{Some, None, Ok, Err, Option, Result, IsSome, is_some, option_and_then}
+use Rattle.refusal.specs.declared.Refusal.{Refusal}
 use Rattle.refusal.specs.Choice.{pick}
 use Rattle.refusal.proofs.Picked.{on_pick}
 use Rattle.reading.specs.declared.Second.{Second}
@@ -13,10 +15,8 @@ use Rattle.vehicle.specs.declared.Vehicle.{Vehicle}
 use Rattle.vehicle.specs.declared.Mode.{Mode}
 use Rattle.vehicle.specs.declared.Mode.TheVariants.{One, Two}
 use Rattle.window.specs.declared.Measured as window
-use Rattle.window.specs.declared.EngineSpeed.{EngineSpeed}
-use Rattle.window.specs.declared.EngineSpeed.TheVariants.{Mean, Absent}
 use Rattle.window.specs.Measuring.{measured_of}
-use Rattle.window.specs.Engine.{engine_missing, engine_speed_of}
+use Rattle.window.specs.Engine.{engine_speed_of}
 use Rattle.window.specs.Plain.{AllPresent, EngineTold}
 use Rattle.window.proofs.Plainly.{engine_exactly}
 use Rattle.attempt.specs.declared.Ending.{Ending}
@@ -39,8 +39,7 @@ use Rattle.loaded_test.specs.declared.Stage.TheVariants.{NotBegun, Settling, Mea
 use Rattle.loaded_test.specs.declared.VoidCounts.{VoidCounts}
 use Rattle.loaded_test.specs.declared.Progress.{Progress}
 use Rattle.loaded_test.specs.declared.Turn.{Turn}
-use Rattle.loaded_test.specs.declared.Answer.{Answer}
-use Rattle.loaded_test.specs.declared.Answer.TheVariants.{Told, Refused}
+use Rattle.loaded_test.specs.declared.Told.{Told}
 use Rattle.loaded_test.specs.declared.Stepped.{Stepped}
 use Rattle.loaded_test.specs.declared.Test.{Test}
 use Rattle.loaded_test.specs.State.{emptied, no_voids, with_resting, with_settling, with_measuring, turn, nothing, stepped, last_window, engine_shown}
@@ -358,29 +357,32 @@ none_none v mode (s ∷ l) e =
     (λ f. absurd (true≢false (sym (ap (λ (b : Bool). b || some_valid v mode l) f) ∙ e)))
     (λ f. none_none v mode l (sym (ap (λ (b : Bool). b || some_valid v mode l) f) ∙ e))
 
--- Without a window no engine speed is shown, whatever the test's state.
-pub absent_shown : (x : Test) → x.progress.measuring.kept ≡ false → engine_shown x ≡ Absent
-unfolding engine_shown last_window engine_speed_of engine_missing pick
+-- Without a window none is shown, and no engine speed, whatever the test's state.
+none_shown : (x : Test) → x.progress.measuring.kept ≡ false → last_window x ≡ None
+unfolding last_window pick
+none_shown x e = rw e
+
+absent_shown : (x : Test) → last_window x ≡ None → engine_shown x ≡ None
+unfolding engine_shown
 absent_shown x e = rw e
 
-window_shown_lem : (x : Test) → x.progress.measuring.kept ≡ true → last_window x ≡ x.window
+window_shown_lem : (x : Test) → x.progress.measuring.kept ≡ true → last_window x ≡ Some x.window
 unfolding last_window pick
 window_shown_lem x e = rw e
 
 module _ (v : Vehicle) (log : List Entry) (x : Test) (h : Shows v log x.progress x.window) where
-  none_told : some_valid v (mode_in log) (run_in log) ≡ false → (x.progress.measuring.kept ≡ false) × (engine_shown x ≡ Absent)
-  none_told e = (h.kept ∙ e, absent_shown x (h.kept ∙ e))
+  none_told : some_valid v (mode_in log) (run_in log) ≡ false → (last_window x ≡ None) × (engine_shown x ≡ None)
+  none_told e = let n = none_shown x (h.kept ∙ e) in (n, absent_shown x n)
 
   some_told : some_valid v (mode_in log) (run_in log) ≡ true → WindowTold v log x
   unfolding engine_shown
   some_told e =
-      let w : last_window x ≡ map (measured_of v (mode_in log)) (last_valid_in v log) = window_shown_lem x (h.kept ∙ e) ∙ h.held e in
+      let w : last_window x ≡ Some (map (measured_of v (mode_in log)) (last_valid_in v log)) = window_shown_lem x (h.kept ∙ e) ∙ ap Some (h.held e) in
       record {
-        kept = h.kept ∙ e;
         ten = some_ten v (mode_in log) (run_in log) e;
         window = w;
         engine =
-            subst⁻¹ (λ (m : List window.Measured). EngineTold (last_valid_in v log) (engine_speed_of m)) w
+            subst⁻¹ (λ (m : Option (List window.Measured)). EngineTold (last_valid_in v log) (option_and_then engine_speed_of m)) w
             (engine_exactly v (mode_in log) (last_valid_in v log));
       }
 
@@ -395,7 +397,7 @@ module _ (v : Vehicle) (log : List Entry) (x : Test) (h : Shows v log x.progress
           (b : Bool) →
           some_valid v (mode_in log) (run_in log) ≡ b →
           last_valid_in v log ≡ [] →
-          (x.progress.measuring.kept ≡ false) × (engine_shown x ≡ Absent)
+          (last_window x ≡ None) × (engine_shown x ≡ None)
       go_none true e f = let t = some_ten v (mode_in log) (run_in log) e in let z : length (last_valid_in v log) ≡ 0 = ap length f in absurd (omega arith)
       go_none false e f = none_told e
 
@@ -425,16 +427,16 @@ present_last v mode (s ∷ l) h =
     on_pick AllPresent (valid_here v mode (s ∷ l)) _ _ (λ _. present_take 10 (s ∷ l) h) (λ _. present_last v mode l h.1)
 
 present_logged :
-    (i : Input) (l : List Input) (a : Answer) (log : List Entry) →
+    (i : Input) (l : List Input) (a : Result Told Refusal) (log : List Entry) →
     AllPresentIn (i ∷ l) →
     AllPresent (run_in log) →
     AllPresent (run_in (logged i a log))
 unfolding logged run_in oldest with_input
-present_logged (a_second s) l (Told d next) log h k =
-    present_drop (suc (length (run_in log)) - t_after d next (length (run_in log))) (s ∷ run_in log) (h.0, k)
-present_logged (a_stop n) l (Told d next) log h k =
-    present_drop (length (run_in log) - t_after d next (length (run_in log))) (run_in log) k
-present_logged i l (Refused r) log h k = k
+present_logged (a_second s) l (Ok told) log h k =
+    present_drop (suc (length (run_in log)) - t_after told.did told.next (length (run_in log))) (s ∷ run_in log) (h.0, k)
+present_logged (a_stop n) l (Ok told) log h k =
+    present_drop (length (run_in log) - t_after told.did told.next (length (run_in log))) (run_in log) k
+present_logged i l (Err r) log h k = k
 
 others_present : (i : Input) (l : List Input) → AllPresentIn (i ∷ l) → AllPresentIn l
 others_present (a_second s) l h = h.1
@@ -449,19 +451,26 @@ present_run v (i ∷ l) h = present_logged i l _ (log_of v l) h (present_run v l
 pub present_shown :
     (v : Vehicle) (l : List Input) →
     AllPresentIn l →
-    (replay v l).progress.measuring.kept ≡ true →
-    (n : ℕ) × (engine_shown (replay v l) ≡ Mean n)
+    IsSome (last_window (replay v l)) →
+    (n : ℕ) × (engine_shown (replay v l) ≡ Some n)
 present_shown v l h e =
     go (engine_shown (replay v l)) refl
-    (some_told v (log_of v l) (replay v l) (shows v l) (sym (shows v l).kept ∙ e)).engine
+    (some_told v (log_of v l) (replay v l) (shows v l) (valid (some_valid v (mode_in (log_of v l)) (run_in (log_of v l))) refl)).engine
   where
+    valid :
+        (b : Bool) →
+        some_valid v (mode_in (log_of v l)) (run_in (log_of v l)) ≡ b →
+        some_valid v (mode_in (log_of v l)) (run_in (log_of v l)) ≡ true
+    valid true f = f
+    valid false f = absurd (true≢false (sym e ∙ ap is_some (none_told v (log_of v l) (replay v l) (shows v l) f).0))
+
     go :
-        (y : EngineSpeed) →
+        (y : Option ℕ) →
         engine_shown (replay v l) ≡ y →
         EngineTold (last_valid_in v (log_of v l)) (engine_shown (replay v l)) →
-        (n : ℕ) × (engine_shown (replay v l) ≡ Mean n)
-    go (Mean n) f t = (n, f)
-    go Absent f t =
+        (n : ℕ) × (engine_shown (replay v l) ≡ Some n)
+    go (Some n) f t = (n, f)
+    go None f t =
         absurd
         (subst (EngineTold (last_valid_in v (log_of v l))) f t
         (present_last v (mode_in (log_of v l)) (run_in (log_of v l)) (present_run v l h)))

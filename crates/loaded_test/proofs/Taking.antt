@@ -46,7 +46,7 @@ use Rattle.loaded_test.proofs.Counting.{Counts, attempt_goes}
 use Rattle.loaded_test.proofs.Holding.{settling_most, some_valid, tally_of, Told, Open, Running, AtStage, Good, Kept}
 use Rattle.loaded_test.proofs.Voiding.{going_ends_not, same_end, fail_pass, incomplete_pass, silent, mode_ended_lem, voided_good, five_good}
 use Rattle.loaded_test.proofs.Approach.{told_on}
-use Rattle.attempt.proofs.Tests.{or_left, or_right}
+use Rattle.std.proofs.lemmas.Bool.{or_parts}
 use Rattle.attempt.proofs.Most.{row_most, all_most}
 use Rattle.loaded_test.proofs.Tally.{pushed, tally_none, tally_more, windows_most}
 use Rattle.attempt.proofs.Ruled.{on_ending, ruled_exactly}
@@ -316,8 +316,8 @@ module _
             let b = before in
             let r : k.row ≤ 3 = subst⁻¹ (λ (x : MeasuringCounts). x.row ≤ 3) counts (row_most 2 _ _ b.0) in
             let a : k.all ≤ 6 = subst⁻¹ (λ (x : MeasuringCounts). x.all ≤ 6) counts (all_most 5 _ _ b.1) in
-            let f : k.row ≡ 3 → ⊥ = eqb-false _ _ (or_left (eqb k.row 3) (eqb k.all 6) stays) in
-            let g : k.all ≡ 6 → ⊥ = eqb-false _ _ (or_right (eqb k.row 3) (eqb k.all 6) stays) in
+            let f : k.row ≡ 3 → ⊥ = eqb-false _ _ (or_parts (eqb k.row 3) (eqb k.all 6) stays).0 in
+            let g : k.all ≡ 6 → ⊥ = eqb-false _ _ (or_parts (eqb k.row 3) (eqb k.all 6) stays).1 in
             (omega arith, omega arith)
 
         -- The ending rule, on counts that are those of the run and this second.

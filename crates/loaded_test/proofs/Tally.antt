@@ -20,13 +20,13 @@ use Rattle.attempt.specs.Measuring.{tallied, window_counted}
 use Rattle.loaded_test.specs.Measuring.{window_taken}
 use Rattle.loaded_test.specs.Windows.{out_of, out_row, out_all, window_of, valid_here, passes_here, fails_here, passing_in, failing_in, speeds_of}
 use Rattle.loaded_test.proofs.Holding.{some_valid, tally_of}
-use Rattle.attempt.proofs.Tests.{and_left}
+use Rattle.std.proofs.lemmas.Bool.{and_parts}
 use Rattle.attempt.proofs.Speeds.{first_more, held_more}
 
 -- A valid window has ten seconds.
 pub valid_ten : (v : Vehicle) (mode : Mode) (l : List Second) → valid_here v mode l ≡ true → 10 ≤ length l
 unfolding valid_here
-valid_ten v mode l e = leb-true _ _ (and_left (leb 10 (length l)) (window_valid (window_of v mode l)) e)
+valid_ten v mode l e = leb-true _ _ (and_parts (leb 10 (length l)) (window_valid (window_of v mode l)) e).0
 
 -- A second pushed onto the last ten.
 pub pushed :

@@ -80,8 +80,8 @@ module _ (v : Vehicle) (i : Input) (log : List Entry) where
   -- Nothing is claimed of an entry that voids nothing and ends nothing.
   pub silent :
       (x : Turn) →
-      voids x.did ≡ false →
-      ((y : Verdict) → x.next ≡ Ends y → ⊥) →
+      voids x.told.did ≡ false →
+      ((y : Verdict) → x.told.next ≡ Ends y → ⊥) →
       Claims v (entry i x ∷ log)
   unfolding voids
   silent x quiet endless = record {

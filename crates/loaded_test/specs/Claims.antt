@@ -1,14 +1,13 @@
 -- What is claimed of every test; the contract of `begin` carries it. Inputs and logs have the newest first.
-use Rattle.std.specs.Prelude.{ℕ, ◌≤◌, true, false, ◌≡◌, List, replicate}
-use Rattle.refusal.specs.Table.{no_test, cause_unfit}
+use Rattle.refusal.specs.declared.Refusal.TheVariants.{NoTest, CauseUnfit}
+use Rattle.std.specs.Prelude.{ℕ, ◌≤◌, true, false, ◌≡◌, List, replicate, Some, IsSome}
 use Rattle.reading.specs.declared.Second.{Second}
 use Rattle.vehicle.specs.declared.Vehicle.{Vehicle}
-use Rattle.window.specs.declared.EngineSpeed.TheVariants.{Mean}
 use Rattle.loaded_test.specs.declared.Word.TheVariants.{Pass}
 use Rattle.loaded_test.specs.declared.Next.TheVariants.{GoesOn, Ends}
 use Rattle.loaded_test.specs.declared.Stage.TheVariants.{Measuring}
 use Rattle.loaded_test.specs.declared.Test.{Test}
-use Rattle.loaded_test.specs.State.{refused, engine_shown}
+use Rattle.loaded_test.specs.State.{refused, last_window, engine_shown}
 use Rattle.loaded_test.specs.Going.{is_running, Goes}
 use Rattle.loaded_test.specs.Steps.{second, stop}
 use Rattle.loaded_test.specs.Log.{Input, a_second, step, replay, log_of}
@@ -41,8 +40,8 @@ pub record TestClaims : Type 0 where
   pub present :
       (v : Vehicle) (l : List Input) →
       AllPresentIn l →
-      (replay v l).progress.measuring.kept ≡ true →
-      (n : ℕ) × (engine_shown (replay v l) ≡ Mean n)
+      IsSome (last_window (replay v l)) →
+      (n : ℕ) × (engine_shown (replay v l) ≡ Some n)
   -- a test that runs takes every second; it has ended after it exactly where that told a verdict
   pub seconds : (x : Test) (s : Second) → is_running x.progress.stage ≡ true → Goes (second x s)
   -- the same of "A stop (1 brake, 2 stall, 3 operator, 4 low flow)"
@@ -52,9 +51,9 @@ pub record TestClaims : Type 0 where
       (x : Test) (n : ℕ) →
       is_running x.progress.stage ≡ true →
       (1 ≤ n → n ≤ 4 → ⊥) →
-      stop x n ≡ refused cause_unfit x
+      stop x n ≡ refused CauseUnfit x
   -- "second or stop, no test": refused 13
-  pub idle : (x : Test) (i : Input) → is_running x.progress.stage ≡ false → step x i ≡ refused no_test x
+  pub idle : (x : Test) (i : Input) → is_running x.progress.stage ≡ false → step x i ≡ refused NoTest x
   -- "36 rows of .., no stops: `pass 1 25 16 0 ..`"
   pub passes :
       newest (log_of motorcycle (replicate 36 (a_second row))) ≡

@@ -1,5 +1,5 @@
 -- Document 01's example of a line, "Motorcycle, 2005, ..: `pass 1 25 16 0 ..`", as a test's vehicle and seconds.
-use Rattle.std.specs.Prelude.{true, false, List, [], ◌∷◌}
+use Rattle.std.specs.Prelude.{false, List, [], ◌∷◌, None}
 use Rattle.reading.specs.declared.Second.{Second}
 use Rattle.reading.specs.declared.Level.TheVariants.{Missing}
 use Rattle.vehicle.specs.declared.Settings.{Settings}
@@ -30,8 +30,7 @@ abbrev pub row : Second
 row = record {
   speed = 250;
   load = 85;
-  engine = 0;
-  engine_missing = true;
+  engine = None;
   hc = 100;
   co = record { 0 = 100 };
   no = 200;

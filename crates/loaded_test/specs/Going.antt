@@ -1,10 +1,9 @@
 -- When a test runs, and when it has ended: exactly where it told a verdict.
-use Rattle.std.specs.Prelude.{Bool, true, false, not, ◌≡◌}
+use Rattle.std.specs.Prelude.{Bool, true, false, not, ◌≡◌, Ok}
 use Rattle.loaded_test.specs.declared.Verdict.{Verdict}
-use Rattle.loaded_test.specs.declared.Did.{Did}
 use Rattle.loaded_test.specs.declared.Next.{Next}
 use Rattle.loaded_test.specs.declared.Next.TheVariants.{GoesOn, Rests, RestEnded, ModeTwo, Ends}
-use Rattle.loaded_test.specs.declared.Answer.TheVariants.{Told}
+use Rattle.loaded_test.specs.declared.Told.{Told}
 use Rattle.loaded_test.specs.declared.Stage.{Stage}
 use Rattle.loaded_test.specs.declared.Stage.TheVariants.{NotBegun, Settling, Measuring, Rest, Ended}
 use Rattle.loaded_test.specs.declared.Stepped.{Stepped}
@@ -36,11 +35,10 @@ ends_in (Ends x) = true
 
 -- A second or a stop was taken; the test runs after it, but where that told a verdict: then it has ended, with that word and those counts.
 pub record Goes (x : Stepped) : Type 0 where
-  pub did : Did
-  pub next : Next
-  pub told : x.answer ≡ Told did next
-  pub stage : is_running x.test.progress.stage ≡ not (ends_in next)
+  pub told : Told
+  pub taken : x.answer ≡ Ok told
+  pub stage : is_running x.test.progress.stage ≡ not (ends_in told.next)
   pub verdict :
       (v : Verdict) →
-      next ≡ Ends v →
+      told.next ≡ Ends v →
       (x.test.progress.stage ≡ Ended v.word) × (v ≡ verdict_of v.word x.test.progress.measuring)

@@ -1,5 +1,5 @@
 -- What holds of a test after every list of inputs, besides the pass claim.
-use Rattle.std.specs.Prelude.{ℕ, suc, ◌+◌, ◌-◌, ◌≤◌, ◌<◌, ◌≡◌, List, [], ◌∷◌, ◌⊎◌, eqb, length, take}
+use Rattle.std.specs.Prelude.{ℕ, suc, ◌+◌, ◌-◌, ◌≤◌, ◌<◌, ◌≡◌, List, [], ◌∷◌, ◌⊎◌, eqb, length, take, Err}
 use Rattle.refusal.specs.Choice.{pick}
 use Rattle.refusal.specs.declared.Refusal.{Refusal}
 use Rattle.vehicle.specs.declared.Vehicle.{Vehicle}
@@ -13,7 +13,6 @@ use Rattle.loaded_test.specs.declared.Did.{Did}
 use Rattle.loaded_test.specs.declared.Did.TheVariants as did
 use Rattle.loaded_test.specs.declared.Next.{Next}
 use Rattle.loaded_test.specs.declared.Next.TheVariants.{GoesOn, Rests, RestEnded, ModeTwo, Ends}
-use Rattle.loaded_test.specs.declared.Answer.TheVariants.{Refused}
 use Rattle.loaded_test.specs.declared.Progress.{Progress}
 use Rattle.loaded_test.specs.declared.Test.{Test}
 use Rattle.loaded_test.specs.declared.Stepped.{Stepped}
@@ -24,7 +23,7 @@ use Rattle.loaded_test.specs.Sheet.{run_in}
 
 -- "Left as it was: all": where the answer is a refusal, the test is the one that was given, whatever its state.
 abbrev pub BackIfRefused : Test → Stepped → Type 0
-BackIfRefused x y = (r : Refusal) → y.answer ≡ Refused r → y.test ≡ x
+BackIfRefused x y = (r : Refusal) → y.answer ≡ Err r → y.test ≡ x
 
 -- The greatest counts: no counter is at its cap, 255.
 pub record Bounded (p : Progress) : Type 0 where

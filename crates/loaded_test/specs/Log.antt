@@ -1,11 +1,11 @@
 -- What a test is given and what it tells, newest first: the log. Attempts, modes and voids are read from it.
-use Rattle.std.specs.Prelude.{ℕ, List, [], ◌∷◌}
+use Rattle.std.specs.Prelude.{ℕ, List, [], ◌∷◌, Ok, Err, Result}
 use Rattle.reading.specs.declared.Second.{Second}
 use Rattle.vehicle.specs.declared.Vehicle.{Vehicle}
 use Rattle.loaded_test.specs.declared.Did.{Did}
 use Rattle.loaded_test.specs.declared.Next.{Next}
-use Rattle.loaded_test.specs.declared.Answer.{Answer}
-use Rattle.loaded_test.specs.declared.Answer.TheVariants.{Told, Refused}
+use Rattle.loaded_test.specs.declared.Told.{Told}
+use Rattle.refusal.specs.declared.Refusal.{Refusal}
 use Rattle.loaded_test.specs.declared.Test.{Test}
 use Rattle.loaded_test.specs.declared.Stepped.{Stepped}
 use Rattle.loaded_test.specs.State.{began}
@@ -33,9 +33,9 @@ replay v [] = began v
 replay v (i ∷ l) = (step (replay v l) i).test
 
 -- What is told is added; what is refused is not.
-unfoldable pub logged : Input → Answer → List Entry → List Entry
-logged i (Told did next) log = record { input = i; did = did; next = next } ∷ log
-logged i (Refused r) log = log
+unfoldable pub logged : Input → Result Told Refusal → List Entry → List Entry
+logged i (Ok told) log = record { input = i; did = told.did; next = told.next } ∷ log
+logged i (Err r) log = log
 
 -- The log after a list of inputs.
 unfoldable pub log_of : Vehicle → List Input → List Entry

@@ -1,9 +1,8 @@
 -- What is shown of a test's last valid window, as its log tells it (document 01, "A verdict keeps the last attempt's counts and window";
 -- document 02, A.1). The run is read from the log: t is told by each measured second and by a verdict. Newest first.
-use Rattle.std.specs.Prelude.{ℕ, ◌-◌, true, false, ◌≡◌, List, [], ◌∷◌, map, length, drop}
+use Rattle.std.specs.Prelude.{ℕ, ◌-◌, ◌≡◌, List, [], ◌∷◌, map, length, drop, Some, None, IsSome}
 use Rattle.reading.specs.declared.Second.{Second}
 use Rattle.vehicle.specs.declared.Vehicle.{Vehicle}
-use Rattle.window.specs.declared.EngineSpeed.TheVariants.{Absent}
 use Rattle.window.specs.Measuring.{measured_of}
 use Rattle.window.specs.Plain.{EngineTold}
 use Rattle.loaded_test.specs.declared.Did.{Did}
@@ -53,20 +52,19 @@ last_valid_in v log = last_valid v (mode_in log) (run_in log)
 
 -- Where there is a last valid window, what is shown is of its ten seconds.
 pub record WindowTold (v : Vehicle) (log : List Entry) (x : Test) : Type 0 where
-  pub kept : x.progress.measuring.kept ≡ true
   pub ten : length (last_valid_in v log) ≡ 10
-  pub window : last_window x ≡ map (measured_of v (mode_in log)) (last_valid_in v log)
+  pub window : last_window x ≡ Some (map (measured_of v (mode_in log)) (last_valid_in v log))
   -- "their mean, rounded half up .. With any of the ten missing the field is "-"."
   pub engine : EngineTold (last_valid_in v log) (engine_shown x)
 
 -- What is shown of a test after a log; t counts the seconds of its run.
 pub record SheetTold (v : Vehicle) (log : List Entry) (x : Test) : Type 0 where
   pub seconds : x.progress.measuring.seconds ≡ length (run_in log)
-  pub none : last_valid_in v log ≡ [] → (x.progress.measuring.kept ≡ false) × (engine_shown x ≡ Absent)
+  pub none : last_valid_in v log ≡ [] → (last_window x ≡ None) × (engine_shown x ≡ None)
   pub some : (last_valid_in v log ≡ [] → ⊥) → WindowTold v log x
 
 -- Every second among these inputs has its engine speed.
 abbrev pub AllPresentIn : List Input → Type 0
 AllPresentIn [] = Unit {0}
-AllPresentIn (a_second s ∷ l) = (s.engine_missing ≡ false) × AllPresentIn l
+AllPresentIn (a_second s ∷ l) = IsSome s.engine × AllPresentIn l
 AllPresentIn (a_stop n ∷ l) = AllPresentIn l

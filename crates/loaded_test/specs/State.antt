@@ -1,5 +1,5 @@
 -- The state of a test: a new attempt, and the state with one of its parts replaced.
-use Rattle.std.specs.Prelude.{ℕ, List, replicate}
+use Rattle.std.specs.Prelude.{ℕ, List, replicate, Some, None, Ok, Err, Option, option_map, option_and_then}
 use Rattle.refusal.specs.Choice.{pick}
 use Rattle.refusal.specs.declared.Refusal.{Refusal}
 use Rattle.vehicle.specs.declared.Vehicle.{Vehicle}
@@ -9,7 +9,7 @@ use Rattle.vehicle.specs.Driving.{blank_vehicle}
 use Rattle.window.specs.declared.Measured.{Measured}
 use Rattle.window.specs.Measuring.{blank_measured}
 use Rattle.window.specs.Engine.{engine_speed_of}
-use Rattle.window.specs.declared.EngineSpeed.{EngineSpeed}
+use Rattle.window.specs.Judging.{Averages, averages_of}
 use Rattle.loaded_test.specs.declared.Word.{Word}
 use Rattle.loaded_test.specs.declared.Verdict.{Verdict}
 use Rattle.loaded_test.specs.declared.Did.{Did}
@@ -18,7 +18,6 @@ use Rattle.loaded_test.specs.declared.Next.{Next}
 use Rattle.loaded_test.specs.declared.Next.TheVariants.{GoesOn}
 use Rattle.loaded_test.specs.declared.Stage.{Stage}
 use Rattle.loaded_test.specs.declared.Stage.TheVariants.{NotBegun, Settling, Ended}
-use Rattle.loaded_test.specs.declared.Answer.TheVariants.{Told, Refused}
 use Rattle.attempt.specs.declared.SettlingCounts.{SettlingCounts}
 use Rattle.attempt.specs.declared.MeasuringCounts.{MeasuringCounts}
 use Rattle.attempt.specs.Settling.{no_settling}
@@ -116,7 +115,7 @@ verdict_of word k = record {
 
 -- What a second or a stop did, what comes next, and the counts after it.
 abbrev pub turn : Did → Next → Progress → Turn
-turn did next p = record { did = did; next = next; progress = p }
+turn did next p = record { told = record { did = did; next = next }; progress = p }
 
 -- Nothing happens.
 abbrev pub nothing : Progress → Turn
@@ -125,7 +124,7 @@ nothing p = turn Nothing GoesOn p
 -- A turn taken by a test with these last ten seconds and this last valid window.
 abbrev pub stepped_with : Vehicle → List Measured → List Measured → Turn → Stepped
 stepped_with v last window x = record {
-  answer = Told x.did x.next;
+  answer = Ok x.told;
   test = record { vehicle = v; progress = x.progress; last = last; window = window };
 }
 
@@ -135,7 +134,7 @@ stepped t x = stepped_with t.vehicle t.last t.window x
 
 -- A refusal leaves the test as it was.
 abbrev pub refused : Refusal → Test → Stepped
-refused r t = record { answer = Refused r; test = t }
+refused r t = record { answer = Err r; test = t }
 
 -- A test of a vehicle with no seconds.
 abbrev pub test_of : Vehicle → Progress → Test
@@ -154,10 +153,14 @@ began v = test_of v (emptied One Settling no_voids)
 abbrev pub none_running : Test
 none_running = test_of blank_vehicle (emptied One NotBegun no_voids)
 
--- "windows empty": the last valid window is read only where there is one; else it has ten blank seconds.
-unfoldable pub last_window : Test → List Measured
-last_window x = pick x.progress.measuring.kept x.window (replicate 10 blank_measured)
+-- "windows empty": the last valid window, if there is one.
+unfoldable pub last_window : Test → Option (List Measured)
+last_window x = pick x.progress.measuring.kept (Some x.window) None
+
+-- The averages of the last valid window, if there is one.
+unfoldable pub averages_shown : Test → Option Averages
+averages_shown x = option_map (averages_of x.vehicle) (last_window x)
 
 -- The engine speed on the sheet (document 02, A.1): "The last valid window keeps its ten engine speeds, and their mean"; none without a window.
-unfoldable pub engine_shown : Test → EngineSpeed
-engine_shown x = engine_speed_of (last_window x)
+unfoldable pub engine_shown : Test → Option ℕ
+engine_shown x = option_and_then engine_speed_of (last_window x)

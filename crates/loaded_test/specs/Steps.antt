@@ -1,11 +1,11 @@
 -- One test: its beginning, a second and a stop.
-use Rattle.std.specs.Prelude.{ℕ, Bool, true, false, ◌&&◌, ◌||◌, leb, eqb}
+use Rattle.refusal.specs.declared.Refusal.TheVariants.{NoTest, CauseUnfit}
+use Rattle.refusal.specs.declared.Refusal.{Refusal}
+use Rattle.vehicle.specs.declared.Vehicle.{Vehicle}
+use Rattle.std.specs.Prelude.{ℕ, Bool, true, false, ◌&&◌, ◌||◌, leb, eqb, Ok, Err, Result}
 use Rattle.refusal.specs.Choice.{pick}
-use Rattle.refusal.specs.Table.{no_test, cause_unfit}
 use Rattle.reading.specs.declared.Second.{Second}
 use Rattle.vehicle.specs.declared.Settings.{Settings}
-use Rattle.vehicle.specs.declared.Checked.{Checked}
-use Rattle.vehicle.specs.declared.Checked.TheVariants.{Fit, Refused}
 use Rattle.vehicle.specs.Checked.{checked_of}
 use Rattle.window.specs.Measuring.{second_out, measured_of}
 use Rattle.loaded_test.specs.declared.Stage.{Stage}
@@ -16,10 +16,7 @@ use Rattle.loaded_test.specs.declared.Progress.{Progress}
 use Rattle.loaded_test.specs.declared.Turn.{Turn}
 use Rattle.loaded_test.specs.declared.Test.{Test}
 use Rattle.loaded_test.specs.declared.Stepped.{Stepped}
-use Rattle.loaded_test.specs.declared.Start.{Start}
-use Rattle.loaded_test.specs.declared.Start.TheVariants as start
-use Rattle.loaded_test.specs.declared.Begun.{Begun}
-use Rattle.loaded_test.specs.State.{with_counted, nothing, stepped, refused, began, none_running}
+use Rattle.loaded_test.specs.State.{with_counted, nothing, stepped, refused, began}
 use Rattle.attempt.specs.Counting.{bump}
 use Rattle.loaded_test.specs.Going.{is_running}
 use Rattle.loaded_test.specs.Voids.{voided}
@@ -53,11 +50,11 @@ in_attempt Clear x clear = clear
 
 -- What a second comes to at each stage. "second or stop, no test": refused where no test has begun and where it has ended.
 unfoldable pub second_at : Stage → Test → Second → Stepped
-second_at NotBegun x s = refused no_test x
+second_at NotBegun x s = refused NoTest x
 second_at Settling x s = in_attempt (screened x.progress.counted s) x (settled x s (counted x.progress))
 second_at Measuring x s = in_attempt (screened x.progress.counted s) x (measured x s (counted x.progress))
 second_at Rest x s = stepped x (rested (rest_count x.progress.resting s) x.progress)
-second_at (Ended w) x s = refused no_test x
+second_at (Ended w) x s = refused NoTest x
 
 -- A second.
 unfoldable pub second : Test → Second → Stepped
@@ -83,18 +80,14 @@ stop_taken resting n p = pick (resting || eqb p.counted 0) (nothing p) (voided n
 unfoldable pub stop : Test → ℕ → Stepped
 stop x n =
     pick (is_running x.progress.stage)
-    (pick (cause_fit n) (stepped x (stop_taken (is_resting x.progress.stage) n x.progress)) (refused cause_unfit x))
-    (refused no_test x)
+    (pick (cause_fit n) (stepped x (stop_taken (is_resting x.progress.stage) n x.progress)) (refused CauseUnfit x))
+    (refused NoTest x)
 
--- The answer to a start, with its test.
-abbrev pub start_of : Start → Test → Begun
-start_of answer test = record { answer = answer; test = test }
-
--- A start by what its settings were checked to.
-unfoldable pub begun_by : Checked → Begun
-begun_by (Fit v) = start_of start.Begins (began v)
-begun_by (Refused r) = start_of (start.Refused r) none_running
+-- A start by what its settings were checked to: where it is refused there is no test.
+unfoldable pub begun_by : Result Vehicle Refusal → Result Test Refusal
+begun_by (Ok v) = Ok (began v)
+begun_by (Err r) = Err r
 
 -- A test begins where its settings and its saturation pressure are fit, else the start is refused by document 01's number and place.
-unfoldable pub begin : Settings → ℕ → Begun
+unfoldable pub begin : Settings → ℕ → Result Test Refusal
 begin settings saturation = begun_by (checked_of settings saturation)

@@ -6,7 +6,7 @@
 
 ghost use Rattle.std.specs.Prelude.{◌≡◌};
 ghost use Rattle.loaded_test.specs.State.{test_of, began, none_running};
-ghost use Rattle.loaded_test.specs.Steps.{start_of, begin, second, stop};
+ghost use Rattle.loaded_test.specs.Steps.{begin, second, stop};
 ghost use Rattle.loaded_test.specs.Laws.{BackIfRefused};
 ghost use Rattle.loaded_test.specs.Claims.{TestClaims};
 
@@ -18,15 +18,15 @@ mod voids;
 
 use attempt::{MeasuringCounts, SettlingCounts};
 pub use printed::{
-    averages_of, engine_speed_of, failing_of, has_ended, has_window, is_automatic, is_running,
-    mode_of, passing_of, progress_of, seconds_of, stage_of,
+    averages_of, engine_speed_of, failing_of, has_ended, is_automatic, is_running, mode_of,
+    passing_of, progress_of, seconds_of, stage_of,
 };
 use reading::Second;
 use refusal::Refusal;
-use vehicle::{Checked, Mode, Settings, Vehicle};
+use vehicle::{Mode, Settings, Vehicle};
 use window::Measured;
 
-#[derive(Clone, Copy)]
+#[derive(Clone, Copy, Debug, PartialEq, Eq)]
 pub enum Word {
     Pass,
     Fail,
@@ -34,7 +34,7 @@ pub enum Word {
 }
 
 // A verdict with t, passing and failing of the attempt that it ends.
-#[derive(Clone, Copy)]
+#[derive(Clone, Copy, Debug, PartialEq, Eq)]
 pub struct Verdict {
     pub word: Word,
     pub t: u8,
@@ -42,8 +42,9 @@ pub struct Verdict {
     pub failing: u8,
 }
 
-// What a second or a stop did: measured with its t, void with its number.
-#[derive(Clone, Copy)]
+// What a second or a stop did: measured with its t, void with its number. Document 01 names voids 1 to 9 by number, programs print it, and no
+// rule asks more of it than whether it is 9: an enum of nine variants would be turned back into it.
+#[derive(Clone, Copy, Debug, PartialEq, Eq)]
 pub enum Did {
     Nothing,
     MeasuringBegan,
@@ -53,7 +54,7 @@ pub enum Did {
 }
 
 // What comes next.
-#[derive(Clone, Copy)]
+#[derive(Clone, Copy, Debug, PartialEq, Eq)]
 pub enum Next {
     GoesOn,
     Rests,
@@ -62,15 +63,15 @@ pub enum Next {
     Ends(Verdict),
 }
 
-// A refused second or stop leaves the test as it was.
-#[derive(Clone, Copy)]
-pub enum Answer {
-    Told(Did, Next),
-    Refused(Refusal),
+// What a second or a stop that is taken tells.
+#[derive(Clone, Copy, Debug, PartialEq, Eq)]
+pub struct Told {
+    pub did: Did,
+    pub next: Next,
 }
 
 // NotBegun stands where there is no test.
-#[derive(Clone, Copy)]
+#[derive(Clone, Copy, Debug, PartialEq, Eq)]
 pub enum Stage {
     NotBegun,
     Settling,
@@ -80,7 +81,7 @@ pub enum Stage {
 }
 
 // Document 01's r and q.
-#[derive(Clone, Copy)]
+#[derive(Clone, Copy, Debug, PartialEq, Eq)]
 pub struct VoidCounts {
     pub voids: u8,
     pub inconclusive: u8,
@@ -99,7 +100,9 @@ pub struct Progress {
 }
 
 // The last ten measured seconds and the last valid window, newest first. The first t of last are of this run, all ten from t = 10
-// on; window is the last valid one where kept tells that there is one.
+// on; window is the last valid one where kept, of the counts, tells that there is one: as an Option among the counts, which each step
+// hands on, it cost 689 instructions a row at rest and 1,838 in a long test, where 600 and 850 are the bars, which the flag meets. An
+// Option here would have to be emptied where the counts are, by functions that have the counts alone. Arrays, since memory is fixed.
 #[derive(Clone, Copy)]
 pub struct Test {
     vehicle: Vehicle,
@@ -108,50 +111,25 @@ pub struct Test {
     window: [Measured; 10],
 }
 
-// A test after a second or a stop.
+// A test after a second or a stop, which takes the test and gives the next one: a refused one leaves it as it was.
 #[derive(Clone, Copy)]
 pub struct Stepped {
-    pub answer: Answer,
-    pub test: Test,
-}
-
-// Where a start is refused there is no test: what stands for it takes no second and no stop.
-#[derive(Clone, Copy)]
-pub enum Start {
-    Begins,
-    Refused(Refusal),
-}
-
-#[derive(Clone, Copy)]
-pub struct Begun {
-    pub answer: Start,
+    pub answer: Result<Told, Refusal>,
     pub test: Test,
 }
 
 // What one second or stop makes of the progress.
 #[derive(Clone, Copy)]
 pub(crate) struct Turn {
-    did: Did,
-    next: Next,
+    told: Told,
     progress: Progress,
 }
-
-const NO_TEST: Refusal = Refusal {
-    number: refusal::NO_TEST,
-    place: 0,
-};
-
-const CAUSE_UNFIT: Refusal = Refusal {
-    number: refusal::CAUSE_UNFIT,
-    place: 0,
-};
 
 // A test of no seconds.
 fn test_of(v: Vehicle, p: Progress) -> Test
     ensures { result ≡ test_of v p }
 {
-    let m = window::blank();
-    let none = [m; 10];
+    let none = [window::blank(); 10];
     Test {
         vehicle: v,
         progress: p,
@@ -160,7 +138,8 @@ fn test_of(v: Vehicle, p: Progress) -> Test
     }
 }
 
-// No test: a second or a stop is refused 13.
+// No test, which a bench holds by value as it does one: a stage of its own in place of an Option, so that the test itself refuses a second or a
+// stop, by 13. One that began differs in vehicle and stage.
 // Ruled out: a test that takes a second, and one that shows the word incomplete.
 pub fn none_running() -> Test
     ensures { result ≡ none_running }
@@ -171,6 +150,7 @@ pub fn none_running() -> Test
     )
 }
 
+// A test that began: at mode 1, in settling, with no voids.
 fn began(v: Vehicle) -> Test
     ensures { result ≡ began v }
 {
@@ -180,55 +160,44 @@ fn began(v: Vehicle) -> Test
     )
 }
 
-fn start_of(answer: Start, test: Test) -> Begun
-    ensures { result ≡ start_of answer test }
-{
-    Begun { answer, test }
-}
-
 // A test begins, or the start is refused 4 with the setting's place, 1 to 7, or 5 with place 0; with it come the claims about every test.
 // Ruled out: a test that begins in mode 2, and one that begins with an unfit setting.
-pub fn begin(settings: Settings, saturation: u16) -> Begun
+#[tactic(auto, using(crate::proofs::Claimed::test_claims), unfolding(crate::specs::Steps::begin, crate::specs::Steps::begun_by))]
+pub fn begin(settings: Settings, saturation: u16) -> Result<Test, Refusal>
     ensures answer { result ≡ begin settings saturation }
     ensures claims { TestClaims }
 {
-    let checked = vehicle::checked_of(settings, saturation);
-    match checked {
-        Checked::Fit(v) => start_of(Start::Begins, began(v)),
-        Checked::Refused(r) => start_of(Start::Refused(r), none_running()),
-    }
+    Ok(began(vehicle::checked_of(settings, saturation)?))
 }
 
 // A second. Where no test runs it is refused 13, which gives back the test as it was.
 // Ruled out: a step that returns the test as it was, a pass at t = 24, and a refusal that loses the last valid window.
+#[tactic(auto, using(crate::proofs::Refusing::second_back_as), unfolding(crate::specs::Steps::second, crate::specs::Steps::second_at))]
 pub fn second(test: Test, s: Second) -> Stepped
     ensures answer { result ≡ second test s }
     ensures back { BackIfRefused test result }
 {
-    let p = test.progress;
-    let stage = p.stage;
-    match stage {
-        Stage::NotBegun => steps::refused(NO_TEST, test),
-        Stage::Settling => settling::in_settling(test, s),
-        Stage::Measuring => measuring::in_measuring(test, s),
+    match test.progress.stage {
+        Stage::Settling => steps::in_attempt(test, s, |p| settling::settled(test, s, p)),
+        Stage::Measuring => steps::in_attempt(test, s, |p| measuring::measured(test, s, p)),
         Stage::Rest => settling::in_rest(test, s),
-        Stage::Ended(_) => steps::refused(NO_TEST, test),
+        Stage::NotBegun | Stage::Ended(_) => steps::refused(Refusal::NoTest, test),
     }
 }
 
-// A stop. Where no test runs it is refused 13, of another cause than 1 to 4 refused 15; either gives back the test as it was.
+// A stop, of the number that was sent. Where no test runs it is refused 13, of another cause than 1 to 4 refused 15; either gives back the test as it was.
 // Ruled out: a stop in rest that counts as a void, and cause 9 taken for void 9.
+#[tactic(auto, using(crate::proofs::Refusing::stop_back), unfolding(crate::specs::Steps::stop, refusal::specs::Choice::pick))]
 pub fn stop(test: Test, cause: u8) -> Stepped
     ensures answer { result ≡ stop test cause }
     ensures back { BackIfRefused test result }
 {
     let p = test.progress;
-    let stage = p.stage;
-    if !steps::is_running(stage) {
-        return steps::refused(NO_TEST, test);
+    if !p.stage.is_running() {
+        return steps::refused(Refusal::NoTest, test);
     }
-    if steps::cause_fit(cause) {
-        return measuring::stepped(test, steps::stop_taken(steps::is_resting(stage), cause, p));
+    if !steps::cause_fit(cause) {
+        return steps::refused(Refusal::CauseUnfit, test);
     }
-    steps::refused(CAUSE_UNFIT, test)
+    steps::stepped(test, steps::stop_taken(cause, p))
 }

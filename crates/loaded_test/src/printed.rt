@@ -1,12 +1,12 @@
-// What is printed of a test: of the attempt that runs, or that the verdict ended.
+// What is printed of a test: of the attempt that runs, or that the verdict ended. Functions as begin, second and stop are, since methods would
+// say no more.
 ghost use Rattle.std.specs.Prelude.{◌≡◌};
-ghost use Rattle.window.specs.Judging.{averages_of};
 ghost use Rattle.loaded_test.specs.Going.{is_running, has_ended};
-ghost use Rattle.loaded_test.specs.State.{last_window, engine_shown};
+ghost use Rattle.loaded_test.specs.State.{last_window, averages_shown, engine_shown};
 
 use crate::{Progress, Stage, Test};
 use vehicle::Mode;
-use window::{Averages, EngineSpeed, Measured};
+use window::{Averages, Measured};
 
 // Mode, stage and all counts of document 01's state.
 // Ruled out: the counts before the last second, and those of another attempt.
@@ -21,8 +21,7 @@ pub fn progress_of(x: Test) -> Progress
 pub fn stage_of(x: Test) -> Stage
     ensures { result ≡ x.progress.stage }
 {
-    let p = x.progress;
-    p.stage
+    x.progress.stage
 }
 
 // Whether the test runs: it has begun, and has no verdict.
@@ -30,9 +29,7 @@ pub fn stage_of(x: Test) -> Stage
 pub fn is_running(x: Test) -> bool
     ensures { result ≡ is_running x.progress.stage }
 {
-    let p = x.progress;
-    let stage = p.stage;
-    crate::steps::is_running(stage)
+    x.progress.stage.is_running()
 }
 
 // Whether the test's vehicle has an automatic gearbox.
@@ -40,8 +37,7 @@ pub fn is_running(x: Test) -> bool
 pub fn is_automatic(x: Test) -> bool
     ensures { result ≡ x.vehicle.automatic }
 {
-    let v = x.vehicle;
-    vehicle::automatic(v)
+    vehicle::automatic(x.vehicle)
 }
 
 // Whether the test has its verdict.
@@ -49,9 +45,7 @@ pub fn is_automatic(x: Test) -> bool
 pub fn has_ended(x: Test) -> bool
     ensures { result ≡ has_ended x.progress.stage }
 {
-    let p = x.progress;
-    let stage = p.stage;
-    crate::steps::has_ended(stage)
+    x.progress.stage.has_ended()
 }
 
 // The mode, in which the verdict fell where there is one.
@@ -59,8 +53,7 @@ pub fn has_ended(x: Test) -> bool
 pub fn mode_of(x: Test) -> Mode
     ensures { result ≡ x.progress.mode }
 {
-    let p = x.progress;
-    p.mode
+    x.progress.mode
 }
 
 // Document 01's t.
@@ -87,38 +80,29 @@ pub fn failing_of(x: Test) -> u8
     x.progress.measuring.windows.failing
 }
 
-// Whether there is a last valid window.
-// Ruled out: always, and where ten seconds were measured, valid or not.
-pub fn has_window(x: Test) -> bool
-    ensures { result ≡ x.progress.measuring.kept }
-{
-    x.progress.measuring.kept
-}
-
-// The last valid window; ten blank seconds where there is none, whatever windows an earlier attempt had.
-fn last_window(x: Test) -> [Measured; 10]
+// The last valid window, if there is one, whatever windows an earlier attempt had.
+#[tactic(auto, unfolding(crate::specs::State::last_window, refusal::specs::Choice::pick))]
+fn last_window(x: Test) -> Option<[Measured; 10]>
     ensures { result ≡ last_window x }
 {
-    if x.progress.measuring.kept {
-        return x.window;
-    }
-    let m = window::blank();
-    [m; 10]
+    x.progress.measuring.kept.then_some(x.window)
 }
 
-// The averages of the last valid window; 0 where there is none.
-// Ruled out: those of the last ten seconds, and those of an earlier attempt.
-pub fn averages_of(x: Test) -> Averages
-    ensures { result ≡ averages_of x.vehicle (last_window x) }
+// The averages of the last valid window; absent where there is none.
+// Ruled out: those of the last ten seconds, those of an earlier attempt, and averages of 0 where there is no window.
+#[tactic(auto, unfolding(crate::specs::State::averages_shown))]
+pub fn averages_of(x: Test) -> Option<Averages>
+    ensures { result ≡ averages_shown x }
 {
-    let v = x.vehicle;
-    window::averages_of(v, last_window(x))
+    let w = last_window(x)?;
+    Some(window::averages_of(x.vehicle, w))
 }
 
 // The engine speed of the last valid window; absent where there is none, or where one of its ten seconds has none.
 // Ruled out: that of the last ten seconds, and that of an earlier attempt.
-pub fn engine_speed_of(x: Test) -> EngineSpeed
+#[tactic(auto, unfolding(crate::specs::State::engine_shown))]
+pub fn engine_speed_of(x: Test) -> Option<u16>
     ensures { result ≡ engine_shown x }
 {
-    window::engine_speed_of(last_window(x))
+    window::engine_speed_of(last_window(x)?)
 }

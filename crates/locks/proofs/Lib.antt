@@ -2,3 +2,4 @@ pub mod Sorts
 pub mod Kept
 pub mod Found
 pub mod Stands
+pub mod First

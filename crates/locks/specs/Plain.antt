@@ -9,17 +9,19 @@ use Rattle.prepare.specs.Claims.{Stands}
 use Rattle.locks.specs.declared.Calibration.TheVariants.{Passed}
 use Rattle.locks.specs.declared.Try.TheVariants.{Good, Wrong}
 use Rattle.locks.specs.declared.Event.TheVariants.{Calibration, Try, CoastDown, Prepare}
+use Rattle.locks.specs.declared.Kind.{Kind}
+use Rattle.locks.specs.declared.Kind.TheVariants as kind
 use Rattle.locks.specs.Events.{kind_of, clock_of}
 use Rattle.locks.specs.Accepted.{Accepted}
 use Rattle.locks.specs.Locks.{verdicts_in}
 
 -- An accepted event of this kind.
-abbrev pub IsKind : ℕ → Accepted → Type 0
+abbrev pub IsKind : Kind → Accepted → Type 0
 IsKind kind a = kind_of a.event ≡ kind
 
 -- A power-on or a clock setting.
 abbrev pub Voids : Accepted → Type 0
-Voids a = IsKind 1 a ⊎ IsKind 2 a
+Voids a = IsKind kind.PowerOn a ⊎ IsKind kind.ClockSetting a
 
 -- None of these is so.
 abbrev pub NoneIs : (Accepted → Type 0) → List Accepted → Type 0
@@ -37,11 +39,11 @@ pub record Has (P Q : Accepted → Type 0) (l : List Accepted) : Type 0 where
 
 -- 1: no warm-up since the newest power-on or clock setting.
 abbrev pub NotWarm : List Accepted → Type 0
-NotWarm l = Has (IsKind 3) Voids l → ⊥
+NotWarm l = Has (IsKind kind.WarmUp) Voids l → ⊥
 
 -- A warm-up or a second.
 abbrev pub Active : Accepted → Type 0
-Active a = IsKind 3 a ⊎ IsKind 10 a
+Active a = IsKind kind.WarmUp a ⊎ IsKind kind.Second a
 
 -- One more than 1,800 s before now.
 abbrev pub ActiveBefore : ℕ → Accepted → Type 0
@@ -59,7 +61,7 @@ pub record PassedWithin (validity now : ℕ) (a : Accepted) : Type 0 where
 
 -- A calibration, or what voids one.
 abbrev pub CalibratesOrVoids : Accepted → Type 0
-CalibratesOrVoids a = IsKind 4 a ⊎ Voids a
+CalibratesOrVoids a = IsKind kind.Calibration a ⊎ Voids a
 
 -- A coast-down run of these speeds.
 pub record RunOf (speeds : SpeedRange) (a : Accepted) : Type 0 where
@@ -98,7 +100,7 @@ pub record GoodWithin (now : ℕ) (a : Accepted) : Type 0 where
 
 -- A try, or what voids one.
 abbrev pub TriesOrVoids : Accepted → Type 0
-TriesOrVoids a = IsKind 5 a ⊎ Voids a
+TriesOrVoids a = IsKind kind.Try a ⊎ Voids a
 
 -- 4: no good try with no try, power-on or clock setting after it and now ≤ its expiry.
 abbrev pub NotSignedIn : ℕ → List Accepted → Type 0
@@ -117,7 +119,7 @@ pub record GoodTry (a : Accepted) : Type 0 where
 
 -- An authority unlock.
 abbrev pub Unlocks : Accepted → Type 0
-Unlocks a = IsKind 7 a
+Unlocks a = IsKind kind.AuthorityUnlock a
 
 -- What ends a row of wrong tries.
 abbrev pub EndsRow : Accepted → Type 0
@@ -135,11 +137,11 @@ pub record PasswordLocked (l : List Accepted) : Type 0 where
 
 -- 6: an authority lock with no unlock after it.
 abbrev pub AuthorityLocked : List Accepted → Type 0
-AuthorityLocked l = Has (IsKind 6) Unlocks l
+AuthorityLocked l = Has (IsKind kind.AuthorityLock) Unlocks l
 
 -- An upload.
 abbrev pub Uploads : Accepted → Type 0
-Uploads a = IsKind 8 a
+Uploads a = IsKind kind.Upload a
 
 -- So many verdicts since the newest upload, or in all where there is none.
 abbrev pub Unsent : ℕ → List Accepted → Type 0
@@ -155,11 +157,11 @@ pub record StandsWithin (now : ℕ) (a : Accepted) : Type 0 where
 
 -- A power-on, a clock setting or an admitted start.
 abbrev pub EndsPrepare : Accepted → Type 0
-EndsPrepare a = Voids a ⊎ IsKind 9 a
+EndsPrepare a = Voids a ⊎ IsKind kind.Start a
 
 -- A prepare, or what ends one.
 abbrev pub PreparesOrEnds : Accepted → Type 0
-PreparesOrEnds a = IsKind 13 a ⊎ EndsPrepare a
+PreparesOrEnds a = IsKind kind.Prepare a ⊎ EndsPrepare a
 
 -- 8: no standing prepare with no prepare, power-on, clock setting or admitted start after it and now ≤ its clock + 120.
 abbrev pub NotPrepared : ℕ → List Accepted → Type 0

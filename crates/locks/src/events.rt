@@ -1,11 +1,11 @@
 // What every event has: its kind, its clock and what it carries.
 ghost use Rattle.std.specs.Prelude.{◌≡◌};
-ghost use Rattle.locks.specs.Events.{described, contents_of, clock_of, served_by, service_in, clock_with, clock_after};
+ghost use Rattle.locks.specs.Events.{described, contents_of, clock_of, clock_after};
 
-use crate::{Carried, Contents, Event, Service};
+use crate::{Carried, Contents, Event, Kind, Service};
 
 // An event that is no start, second or stop.
-fn service_event(kind: u8, clock: u32, x: Service) -> Contents
+fn service_event(kind: Kind, clock: u32, x: Service) -> Contents
     ensures { result ≡ described kind clock (Carried.Service x) }
 {
     Contents {
@@ -15,43 +15,53 @@ fn service_event(kind: u8, clock: u32, x: Service) -> Contents
     }
 }
 
-// The number of an event's kind in documents 01 and 02, its own clock and what it carries.
-// Ruled out: a stop told as a second, kinds counted from 0, and a clock setting's new clock for its own.
+// An event's kind, its own clock and what it carries.
+// Ruled out: a stop told as a second, and a clock setting's new clock for its own.
 pub fn contents_of(event: Event) -> Contents
     ensures { result ≡ contents_of event }
 {
     match event {
-        Event::PowerOn { clock } => service_event(1, clock, Service::Nothing),
+        Event::PowerOn { clock } => service_event(Kind::PowerOn, clock, Service::Nothing),
         Event::ClockSetting { clock, new_clock } => {
-            service_event(2, clock, Service::NewClock(new_clock))
+            service_event(Kind::ClockSetting, clock, Service::NewClock(new_clock))
         }
-        Event::WarmUp { clock } => service_event(3, clock, Service::Nothing),
-        Event::Calibration { clock, outcome } => service_event(4, clock, Service::Outcome(outcome)),
-        Event::Try { clock, outcome } => service_event(5, clock, Service::Tried(outcome)),
-        Event::AuthorityLock { clock } => service_event(6, clock, Service::Nothing),
-        Event::AuthorityUnlock { clock } => service_event(7, clock, Service::Nothing),
-        Event::Upload { clock } => service_event(8, clock, Service::Nothing),
+        Event::WarmUp { clock } => service_event(Kind::WarmUp, clock, Service::Nothing),
+        Event::Calibration { clock, outcome } => {
+            service_event(Kind::Calibration, clock, Service::Outcome(outcome))
+        }
+        Event::Try { clock, outcome } => service_event(Kind::Try, clock, Service::Tried(outcome)),
+        Event::AuthorityLock { clock } => {
+            service_event(Kind::AuthorityLock, clock, Service::Nothing)
+        }
+        Event::AuthorityUnlock { clock } => {
+            service_event(Kind::AuthorityUnlock, clock, Service::Nothing)
+        }
+        Event::Upload { clock } => service_event(Kind::Upload, clock, Service::Nothing),
         Event::Start {
             clock,
             settings,
             saturation,
         } => Contents {
-            kind: 9,
+            kind: Kind::Start,
             clock,
             carried: Carried::Start(settings, saturation),
         },
         Event::Second { clock, readings } => Contents {
-            kind: 10,
+            kind: Kind::Second,
             clock,
             carried: Carried::Second(readings),
         },
         Event::Stop { clock, cause } => Contents {
-            kind: 11,
+            kind: Kind::Stop,
             clock,
             carried: Carried::Stop(cause),
         },
-        Event::CoastDown { clock, run } => service_event(12, clock, Service::Ran(run)),
-        Event::Prepare { clock, check } => service_event(13, clock, Service::Prepared(check)),
+        Event::CoastDown { clock, run } => {
+            service_event(Kind::CoastDown, clock, Service::Ran(run))
+        }
+        Event::Prepare { clock, check } => {
+            service_event(Kind::Prepare, clock, Service::Prepared(check))
+        }
     }
 }
 
@@ -60,41 +70,7 @@ pub fn contents_of(event: Event) -> Contents
 pub fn clock_of(event: Event) -> u32
     ensures { result ≡ clock_of event }
 {
-    let contents = contents_of(event);
-    contents.clock
-}
-
-// What a start, a second or a stop carries is nothing to the locks.
-fn served_by(carried: Carried) -> Service
-    ensures { result ≡ served_by carried }
-{
-    match carried {
-        Carried::Service(x) => x,
-        Carried::Start(_, _) => Service::Nothing,
-        Carried::Second(_) => Service::Nothing,
-        Carried::Stop(_) => Service::Nothing,
-    }
-}
-
-pub(crate) fn service_in(event: Event) -> Service
-    ensures { result ≡ service_in event }
-{
-    let contents = contents_of(event);
-    let carried = contents.carried;
-    served_by(carried)
-}
-
-fn clock_with(x: Service, clock: u32) -> u32
-    ensures { result ≡ clock_with x clock }
-{
-    match x {
-        Service::Nothing => clock,
-        Service::NewClock(new) => new,
-        Service::Outcome(_) => clock,
-        Service::Tried(_) => clock,
-        Service::Ran(_) => clock,
-        Service::Prepared(_) => clock,
-    }
+    contents_of(event).clock
 }
 
 // The last clock after an event: a clock setting takes its new one.
@@ -102,5 +78,8 @@ fn clock_with(x: Service, clock: u32) -> u32
 pub fn clock_after(event: Event) -> u32
     ensures { result ≡ clock_after event }
 {
-    clock_with(service_in(event), clock_of(event))
+    match event {
+        Event::ClockSetting { new_clock, .. } => new_clock,
+        _ => clock_of(event),
+    }
 }

@@ -1,24 +1,24 @@
 // Document 01, "Locks of the bench", and document 02, A.2 and A.5: the thirteen events, and what locks a start.
 // Exported: Event, with its kind, its clocks and what it carries (Contents); Locks, what the eight locks are read from, after each
-// accepted event and each verdict; lock_number, the first lock that stands. specs/Locks.antt reads the same locks from the list of
+// accepted event and each verdict; first_lock, the first lock that stands. specs/Locks.antt reads the same locks from the list of
 // accepted events, and specs/Plain.antt says in plain words when each stands.
 #![tactic(auto)]
 
 ghost use Rattle.std.specs.Prelude.{◌≡◌};
-ghost use Rattle.locks.specs.Claims.{LockClaims};
-ghost use Rattle.locks.specs.State.{fresh_locks, locks_after, verdict_counted, lock_number};
+ghost use Rattle.locks.specs.Events.{kind_number};
+ghost use Rattle.locks.specs.Claims.{LockClaims, FirstClaims};
+ghost use Rattle.locks.specs.Locks.{lock_number};
+ghost use Rattle.locks.specs.State.{fresh_locks, locks_after, verdict_counted, first_lock};
 
-mod coasting;
 mod events;
 mod preparing;
 mod standing;
 mod tries;
 mod validity;
 
-use crate::events::service_in;
 pub use crate::events::{clock_after, clock_of, contents_of};
 use crate::preparing::prepared_after;
-use crate::standing::{active_after, one_more, unsent_after};
+use crate::standing::{active_after, standing_of, unsent_after};
 use crate::tries::{NO_SECURITY, security_after};
 use crate::validity::{NO_SESSION, session_after};
 use coast_down::Run;
@@ -33,15 +33,15 @@ pub enum Calibration {
     Failed,
 }
 
-// What a try at the password came to.
+// What a try at the password came to: two cases of its own, as document 01 has it, since none would not say that it was wrong.
 #[derive(Clone, Copy)]
 pub enum Try {
     Good { expiry: u32 },
     Wrong,
 }
 
-// An event of the bench, each with its clock in seconds, in the order of document 01's kinds 1 to 11 and document 02's kinds 12
-// and 13.
+// An event of the bench, each with its clock in seconds, in the order of document 01's kinds 1 to 11 and document 02's kinds 12 and 13. What it
+// holds are the numbers that were sent: a stop's cause may be none of the four, and is refused then.
 #[derive(Clone, Copy)]
 pub enum Event {
     PowerOn {
@@ -94,6 +94,34 @@ pub enum Event {
     },
 }
 
+// The kinds of event, in the order of their numbers.
+#[derive(Clone, Copy, Debug, PartialEq, Eq)]
+pub enum Kind {
+    PowerOn,
+    ClockSetting,
+    WarmUp,
+    Calibration,
+    Try,
+    AuthorityLock,
+    AuthorityUnlock,
+    Upload,
+    Start,
+    Second,
+    Stop,
+    CoastDown,
+    Prepare,
+}
+
+impl Kind {
+    // Its number in documents 01 and 02.
+    // Ruled out: kinds counted from 0, and a stop numbered as a second.
+    pub fn number(self) -> u8
+        ensures { result ≡ kind_number self }
+    {
+        self as u8 + 1
+    }
+}
+
 // What an event that is no start, second or stop carries beside its clock.
 #[derive(Clone, Copy)]
 pub enum Service {
@@ -105,7 +133,7 @@ pub enum Service {
     Prepared(ZeroCheck),
 }
 
-// What an event carries beside its clock.
+// What an event carries beside its clock; of a stop the number that was sent.
 #[derive(Clone, Copy)]
 pub enum Carried {
     Service(Service),
@@ -114,27 +142,48 @@ pub enum Carried {
     Stop(u8),
 }
 
-// An event by document 01's number of its kind, its clock and what it carries.
+// An event by its kind, its clock and what it carries.
 #[derive(Clone, Copy)]
 pub struct Contents {
-    pub kind: u8,
+    pub kind: Kind,
     pub clock: u32,
     pub carried: Carried,
 }
 
-// The calibration that stands: none that passed, or the clock of one that did.
-#[derive(Clone, Copy)]
-pub enum Calibrated {
-    No,
-    At(u32),
+// The eight locks, in the order of their numbers.
+#[derive(Clone, Copy, Debug, PartialEq, Eq)]
+pub enum Lock {
+    NotWarm,
+    Inactive,
+    NotCalibrated,
+    NotSignedIn,
+    Password,
+    Authority,
+    Unsent,
+    Unprepared,
 }
 
-// The sign-in that stands: none, or one with its expiry.
-#[derive(Clone, Copy)]
-pub enum SignIn {
-    Out,
-    Until(u32),
+impl Lock {
+    // Its number in documents 01 and 02.
+    // Ruled out: locks counted from 0, and the authority lock numbered before the password lock.
+    pub fn number(self) -> u8
+        ensures { result ≡ lock_number self }
+    {
+        self as u8 + 1
+    }
 }
+
+// "A start is locked by the first standing one": the order in which they are asked.
+const IN_ORDER: [Lock; 8] = [
+    Lock::NotWarm,
+    Lock::Inactive,
+    Lock::NotCalibrated,
+    Lock::NotSignedIn,
+    Lock::Password,
+    Lock::Authority,
+    Lock::Unsent,
+    Lock::Unprepared,
+];
 
 // Whether the latest coast-down run of each speed passed.
 #[derive(Clone, Copy)]
@@ -147,16 +196,9 @@ pub struct Rollers {
 #[derive(Clone, Copy)]
 pub struct Session {
     warm: bool,
-    calibrated: Calibrated,
+    calibrated: Option<u32>,
     rollers: Rollers,
-    signed: SignIn,
-}
-
-// The latest warm-up or second: none, or its clock.
-#[derive(Clone, Copy)]
-pub enum Activity {
-    Never,
-    Last(u32),
+    signed: Option<u32>,
 }
 
 // What authority unlock clears: the wrong tries in a row, counted up to four, password lock and authority lock.
@@ -167,34 +209,14 @@ pub struct Security {
     authority: bool,
 }
 
-// The prepare that stands: none, or the clock of one that does.
-#[derive(Clone, Copy)]
-pub enum Prepared {
-    Not,
-    Since(u32),
-}
-
-// What the locks are read from; unsent counts the verdicts since the last upload.
+// What the locks are read from; unsent counts the verdicts since the last upload. State by value: a call takes it and gives the next one.
 #[derive(Clone, Copy)]
 pub struct Locks {
     session: Session,
-    active: Activity,
+    active: Option<u32>,
     security: Security,
     unsent: u16,
-    prepared: Prepared,
-}
-
-// Which of the eight locks stand, in their order.
-#[derive(Clone, Copy)]
-pub(crate) struct StandingLocks {
-    not_warm: bool,
-    inactive: bool,
-    not_calibrated: bool,
-    not_signed_in: bool,
-    password: bool,
-    authority: bool,
-    unsent: bool,
-    unprepared: bool,
+    prepared: Option<u32>,
 }
 
 // The locks of a fresh bench.
@@ -204,10 +226,10 @@ pub fn fresh_locks() -> Locks
 {
     Locks {
         session: NO_SESSION,
-        active: Activity::Never,
+        active: None,
         security: NO_SECURITY,
         unsent: 0,
-        prepared: Prepared::Not,
+        prepared: None,
     }
 }
 
@@ -217,40 +239,37 @@ pub fn fresh_locks() -> Locks
 pub fn locks_after(k: Locks, event: Event) -> Locks
     ensures { result ≡ locks_after k event }
 {
-    let contents = contents_of(event);
-    let kind = contents.kind;
-    let clock = contents.clock;
-    let service = service_in(event);
-    let session = k.session;
-    let active = k.active;
-    let security = k.security;
-    let prepared = k.prepared;
     Locks {
-        session: session_after(session, kind, clock, service),
-        active: active_after(active, kind, clock),
-        security: security_after(security, kind, service),
-        unsent: unsent_after(k.unsent, kind),
-        prepared: prepared_after(prepared, kind, clock, service),
+        session: session_after(k.session, event),
+        active: active_after(k.active, event),
+        security: security_after(k.security, event),
+        unsent: unsent_after(k.unsent, event),
+        prepared: prepared_after(k.prepared, event),
     }
 }
 
-// After a verdict: one unsent more.
+// After a verdict: one unsent more, held at the greatest number of its type, which no bench reaches.
 // Ruled out: a verdict that is not counted, and one that renews lock 2.
 pub fn verdict_counted(k: Locks) -> Locks
     ensures { result ≡ verdict_counted k }
 {
-    let mut next = k;
-    next.unsent = one_more(k.unsent);
-    next
+    Locks {
+        unsent: k.unsent.saturating_add(1),
+        ..k
+    }
 }
 
-// The number of the first lock that stands for a start at this clock with V and U, 0 where none does; with it comes when each stands,
-// in plain words.
+// The first lock that stands for a start at this clock with V and U, if one does; with it comes when each stands, in plain words.
 // Ruled out: a start at the very second of the sign-in's expiry locked by 4, lock 7 at U − 1 verdicts, and a start 121 s after the
 // prepare admitted.
-pub fn lock_number(validity: u32, limit: u16, k: Locks, now: u32) -> u8
-    ensures answer { result ≡ lock_number validity limit k now }
+// V and U are the bench's: this and what it asks for one lock alone take them, and no struct holds the two.
+pub fn first_lock(validity: u32, limit: u16, k: Locks, now: u32) -> Option<Lock>
+    ensures answer { result ≡ first_lock validity limit k now }
     ensures claims { LockClaims }
+    ensures first { FirstClaims }
 {
-    standing::first_standing(standing::standing_of(validity, limit, k, now))
+    IN_ORDER
+        .iter()
+        .copied()
+        .find(|lock| standing_of(validity, limit, k, now, *lock))
 }

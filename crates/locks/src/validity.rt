@@ -1,177 +1,111 @@
-// Warm-up, calibration, coast-down and sign-in: what power-on and clock setting void.
+// Warm-up, calibration, coast-down runs and sign-in: what power-on and clock setting void, and locks 1, 3 and 4, which are read from it.
 ghost use Rattle.std.specs.Prelude.{◌≡◌};
-ghost use Rattle.locks.specs.Events.{passed};
-ghost use Rattle.locks.specs.Locks.{voids};
+ghost use Rattle.coast_down.specs.Passing.{run_passed};
 ghost use Rattle.locks.specs.State.{
-  warm_after,
-  calibrated_by,
-  calibrated_with,
-  calibrated_after,
-  signed_by,
-  signed_with,
-  signed_after,
+  ran_by,
   session_after,
-  cold,
   uncalibrated,
   calibration_old,
-  signed_out,
+  uncoasted,
   sign_in_over,
 };
 
 use crate::standing::older;
-use crate::{Calibrated, Calibration, Service, Session, SignIn, Try, coasting};
+use crate::{Calibration, Event, Rollers, Session, Try};
+use coast_down::{Run, SpeedRange};
+
+const NO_RUNS: Rollers = Rollers {
+    faster: false,
+    slower: false,
+};
 
 pub(crate) const NO_SESSION: Session = Session {
     warm: false,
-    calibrated: Calibrated::No,
-    rollers: coasting::NO_RUNS,
-    signed: SignIn::Out,
+    calibrated: None,
+    rollers: NO_RUNS,
+    signed: None,
 };
 
-// Power-on and clock setting.
-pub(crate) fn voids(kind: u8) -> bool
-    ensures { result ≡ voids kind }
+// A run takes the place of the one before of its speeds.
+fn ran_by(run: Run, rollers: Rollers) -> Rollers
+    ensures { result ≡ ran_by run.speeds (run_passed run) rollers }
 {
-    (kind == 1) | (kind == 2)
-}
-
-fn warm_after(kind: u8, warm: bool) -> bool
-    ensures { result ≡ warm_after kind warm }
-{
-    let cooled = voids(kind);
-    if cooled {
-        return false;
-    }
-    (kind == 3) | warm
-}
-
-fn passed(outcome: Calibration) -> bool
-    ensures { result ≡ passed outcome }
-{
-    match outcome {
-        Calibration::Passed => true,
-        Calibration::Failed => false,
+    let passed = coast_down::run_passed(run);
+    match run.speeds {
+        SpeedRange::Faster => Rollers {
+            faster: passed,
+            ..rollers
+        },
+        SpeedRange::Slower => Rollers {
+            slower: passed,
+            ..rollers
+        },
     }
 }
 
-fn calibrated_by(passed: bool, clock: u32, otherwise: Calibrated) -> Calibrated
-    ensures { result ≡ calibrated_by passed clock otherwise }
+// The latest calibration, run and try stand, whatever stood before them. "A wrong try also signs out."
+pub(crate) fn session_after(s: Session, event: Event) -> Session
+    ensures { result ≡ session_after s event }
 {
-    if passed {
-        return Calibrated::At(clock);
-    }
-    otherwise
-}
-
-// The latest calibration stands, whatever stood before it.
-fn calibrated_with(clock: u32, x: Service, calibrated: Calibrated) -> Calibrated
-    ensures { result ≡ calibrated_with clock x calibrated }
-{
-    match x {
-        Service::Nothing => calibrated,
-        Service::NewClock(_) => calibrated,
-        Service::Outcome(outcome) => calibrated_by(passed(outcome), clock, Calibrated::No),
-        Service::Tried(_) => calibrated,
-        Service::Ran(_) => calibrated,
-        Service::Prepared(_) => calibrated,
-    }
-}
-
-fn calibrated_after(kind: u8, clock: u32, x: Service, calibrated: Calibrated) -> Calibrated
-    ensures { result ≡ calibrated_after kind clock x calibrated }
-{
-    let lost = voids(kind);
-    if lost {
-        return Calibrated::No;
-    }
-    calibrated_with(clock, x, calibrated)
-}
-
-// "A wrong try also signs out."
-fn signed_by(outcome: Try) -> SignIn
-    ensures { result ≡ signed_by outcome }
-{
-    match outcome {
-        Try::Good { expiry } => SignIn::Until(expiry),
-        Try::Wrong => SignIn::Out,
+    match event {
+        Event::PowerOn { .. } | Event::ClockSetting { .. } => NO_SESSION,
+        Event::WarmUp { .. } => Session { warm: true, ..s },
+        Event::Calibration {
+            clock,
+            outcome: Calibration::Passed,
+        } => Session {
+            calibrated: Some(clock),
+            ..s
+        },
+        Event::Calibration {
+            outcome: Calibration::Failed,
+            ..
+        } => Session {
+            calibrated: None,
+            ..s
+        },
+        Event::CoastDown { run, .. } => Session {
+            rollers: ran_by(run, s.rollers),
+            ..s
+        },
+        Event::Try {
+            outcome: Try::Good { expiry },
+            ..
+        } => Session {
+            signed: Some(expiry),
+            ..s
+        },
+        Event::Try {
+            outcome: Try::Wrong,
+            ..
+        } => Session { signed: None, ..s },
+        _ => s,
     }
 }
 
-fn signed_with(x: Service, signed: SignIn) -> SignIn
-    ensures { result ≡ signed_with x signed }
+fn calibration_old(validity: u32, now: u32, calibrated: Option<u32>) -> bool
+    ensures { result ≡ calibration_old validity now calibrated }
 {
-    match x {
-        Service::Nothing => signed,
-        Service::NewClock(_) => signed,
-        Service::Outcome(_) => signed,
-        Service::Tried(outcome) => signed_by(outcome),
-        Service::Ran(_) => signed,
-        Service::Prepared(_) => signed,
-    }
+    calibrated.is_none_or(|clock| older(clock, validity, now))
 }
 
-fn signed_after(kind: u8, x: Service, signed: SignIn) -> SignIn
-    ensures { result ≡ signed_after kind x signed }
+// Lock 3, as to the rollers.
+fn uncoasted(rollers: Rollers) -> bool
+    ensures { result ≡ uncoasted rollers }
 {
-    let over = voids(kind);
-    if over {
-        return SignIn::Out;
-    }
-    signed_with(x, signed)
-}
-
-pub(crate) fn session_after(s: Session, kind: u8, clock: u32, x: Service) -> Session
-    ensures { result ≡ session_after s kind clock x }
-{
-    let calibrated = s.calibrated;
-    let rollers = s.rollers;
-    let signed = s.signed;
-    Session {
-        warm: warm_after(kind, s.warm),
-        calibrated: calibrated_after(kind, clock, x, calibrated),
-        rollers: coasting::ran_after(kind, x, rollers),
-        signed: signed_after(kind, x, signed),
-    }
-}
-
-// Lock 1.
-pub(crate) fn cold(s: Session) -> bool
-    ensures { result ≡ cold s }
-{
-    !s.warm
-}
-
-fn calibration_old(validity: u32, now: u32, c: Calibrated) -> bool
-    ensures { result ≡ calibration_old validity now c }
-{
-    match c {
-        Calibrated::No => true,
-        Calibrated::At(clock) => older(clock, validity, now),
-    }
+    !rollers.faster || !rollers.slower
 }
 
 // Lock 3.
 pub(crate) fn uncalibrated(validity: u32, now: u32, s: Session) -> bool
     ensures { result ≡ uncalibrated validity now s }
 {
-    let c = s.calibrated;
-    let rollers = s.rollers;
-    calibration_old(validity, now, c) | coasting::uncoasted(rollers)
-}
-
-fn sign_in_over(now: u32, signed: SignIn) -> bool
-    ensures { result ≡ sign_in_over now signed }
-{
-    match signed {
-        SignIn::Out => true,
-        SignIn::Until(expiry) => expiry < now,
-    }
+    calibration_old(validity, now, s.calibrated) || uncoasted(s.rollers)
 }
 
 // Lock 4.
-pub(crate) fn signed_out(now: u32, s: Session) -> bool
-    ensures { result ≡ signed_out now s }
+pub(crate) fn sign_in_over(now: u32, signed: Option<u32>) -> bool
+    ensures { result ≡ sign_in_over now signed }
 {
-    let signed = s.signed;
-    sign_in_over(now, signed)
+    signed.is_none_or(|expiry| expiry < now)
 }

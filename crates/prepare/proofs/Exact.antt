@@ -1,18 +1,19 @@
 -- The signed number of a residue, and what a prepare's tests say in plain numbers. Assumes nothing.
 use Prim.Native.Nat.{ℕ, ◌-◌, suc, ◌≤◌, ◌<◌}
 use native.Mathlib.Omega.{arith}
+use Rattle.std.proofs.Common.{rules}
 use mathlib.Core.Bool.{Bool, true, false, ◌&&◌, false≢true}
 use mathlib.Core.Path.{◌≡◌, refl, ap, sym, ◌∙◌}
 use mathlib.Core.Logic.{◌↔◌}
 use lib.Dec.{T, leb, ltb}
 use lib.IntN.{ℤ, pos, negsuc, sub_ℕ, ◌+ℤ◌}
 use lib.Signed.{le_z, ◌≤ℤ◌}
-use borrow.Author.Tests.{ltb-true, ltb-false, lt-ltb, le-ltb, leb-true, le-leb, lt-leb, eqb-false}
+use borrow.Author.Tests.{ltb-true, ltb-false, lt-ltb, le-ltb, leb-true, le-leb, lt-leb}
 use Rattle.refusal.specs.Choice.{pick}
 use Rattle.refusal.proofs.Exactly.{ltb_exactly, and_exactly}
 use Rattle.prepare.specs.declared.Residue.{Residue}
 use Rattle.prepare.specs.declared.ZeroCheck.{ZeroCheck}
-use Rattle.prepare.specs.Standing.{signed_of, residue_fit, prepare_stands, above, above_greatest}
+use Rattle.prepare.specs.Standing.{signed_of, residue_fit, prepare_stands}
 use Rattle.prepare.specs.Claims.{TwosComplement, ZeroToSeven, BitsToo, Stands, PrepareClaims, BackgroundClaims}
 
 -- A test of order is true exactly where the order holds.
@@ -80,67 +81,5 @@ stands_exactly p = (
 pub prepare_claims : PrepareClaims
 prepare_claims = record { stands = stands_exactly; signed = signed; bits = bits_too }
 
--- The lowest of three, by which are above.
-lowest :
-    {P Q R P' Q' R' : Type 0} (a b c : Bool) →
-    (a ≡ true) ↔ P →
-    (a ≡ false) ↔ P' →
-    (b ≡ true) ↔ Q →
-    (b ≡ false) ↔ Q' →
-    (c ≡ true) ↔ R →
-    (c ≡ false) ↔ R' →
-    (n : ℕ) →
-    n ≡ pick a 4 (pick b 5 (pick c 6 0)) →
-    (((n ≡ 4) ↔ P) × ((n ≡ 5) ↔ (P' × Q))) × (((n ≡ 6) ↔ (P' × Q' × R)) × ((n ≡ 0) ↔ (P' × Q' × R')))
-unfolding pick
-lowest true b c p p' q q' r r' n e = (
-  (
-    ((λ _. p.0 refl), (λ _. e)),
-    ((λ k. absurd (eqb-false 4 5 refl (sym e ∙ k))), (λ x. absurd (false≢true (sym (p'.1 x.0))))),
-  ),
-  (
-    ((λ k. absurd (eqb-false 4 6 refl (sym e ∙ k))), (λ x. absurd (false≢true (sym (p'.1 x.0))))),
-    ((λ k. absurd (eqb-false 4 0 refl (sym e ∙ k))), (λ x. absurd (false≢true (sym (p'.1 x.0))))),
-  ),
-)
-lowest false true c p p' q q' r r' n e = (
-  (
-    ((λ k. absurd (eqb-false 5 4 refl (sym e ∙ k))), (λ x. absurd (false≢true (p.1 x)))),
-    ((λ _. (p'.0 refl, q.0 refl)), (λ _. e)),
-  ),
-  (
-    ((λ k. absurd (eqb-false 5 6 refl (sym e ∙ k))), (λ x. absurd (false≢true (sym (q'.1 x.1))))),
-    ((λ k. absurd (eqb-false 5 0 refl (sym e ∙ k))), (λ x. absurd (false≢true (sym (q'.1 x.1))))),
-  ),
-)
-lowest false false true p p' q q' r r' n e = (
-  (
-    ((λ k. absurd (eqb-false 6 4 refl (sym e ∙ k))), (λ x. absurd (false≢true (p.1 x)))),
-    ((λ k. absurd (eqb-false 6 5 refl (sym e ∙ k))), (λ x. absurd (false≢true (q.1 x.1)))),
-  ),
-  (
-    ((λ _. (p'.0 refl, q'.0 refl, r.0 refl)), (λ _. e)),
-    ((λ k. absurd (eqb-false 6 0 refl (sym e ∙ k))), (λ x. absurd (false≢true (sym (r'.1 x.2))))),
-  ),
-)
-lowest false false false p p' q q' r r' n e = (
-  (
-    ((λ k. absurd (eqb-false 0 4 refl (sym e ∙ k))), (λ x. absurd (false≢true (p.1 x)))),
-    ((λ k. absurd (eqb-false 0 5 refl (sym e ∙ k))), (λ x. absurd (false≢true (q.1 x.1)))),
-  ),
-  (
-    ((λ k. absurd (eqb-false 0 6 refl (sym e ∙ k))), (λ x. absurd (false≢true (r.1 x.2)))),
-    ((λ _. (p'.0 refl, q'.0 refl, r'.0 refl)), (λ _. e)),
-  ),
-)
-
-within : (a b : ℕ) → (ltb a b ≡ false) ↔ (b ≤ a)
-within a b = (ltb-false a b, le-ltb a b)
-
 pub background_claims : BackgroundClaims
-unfolding above_greatest
-background_claims p =
-    let x = lowest (above 4 p.hc) (above 5 p.co) (above 6 p.no)
-    (ltb_exactly _ _) (within _ _) (ltb_exactly _ _) (within _ _) (ltb_exactly _ _) (within _ _)
-    (above_greatest p) refl in
-    record { hc = x.0.0; co = x.0.1; no = x.1.0; none = x.1.1 }
+background_claims p = record { hc = search rules; co = search rules; no = search rules; none = search rules }

@@ -1,5 +1,6 @@
 -- What holds of every prepare, in plain propositions over its numbers; the contracts of this crate's functions carry it.
-use Rattle.std.specs.Prelude.{◌≤◌, ◌<◌, true, ◌≡◌, ◌↔◌, ℤ, pos, ◌+ℤ◌, ◌≤ℤ◌}
+use Rattle.std.specs.Prelude.{◌≤◌, ◌<◌, true, ◌≡◌, ◌↔◌, ℤ, pos, ◌+ℤ◌, ◌≤ℤ◌, Some, None}
+use Rattle.reading.specs.declared.Channel.TheVariants.{Hc, Co, No}
 use Rattle.reading.specs.Channel.{greatest_value}
 use Rattle.prepare.specs.declared.Residue.{Residue}
 use Rattle.prepare.specs.declared.ZeroCheck.{ZeroCheck}
@@ -51,12 +52,12 @@ NoAbove p = (p.hc ≤ greatest_value 4) × (p.co ≤ greatest_value 5) × (great
 abbrev pub NoneAbove : ZeroCheck → Type 0
 NoneAbove p = (p.hc ≤ greatest_value 4) × (p.co ≤ greatest_value 5) × (p.no ≤ greatest_value 6)
 
--- "place the lowest such code": 4, 5 or 6 where that background is above its channel's greatest and none before it is; 0 where none is.
+-- "place the lowest such code": HC, CO or NO where that background is above its channel's greatest and none before it is; none where none is.
 pub record LowestAbove (p : ZeroCheck) : Type 0 where
-  pub hc : (above_greatest p ≡ 4) ↔ HcAbove p
-  pub co : (above_greatest p ≡ 5) ↔ CoAbove p
-  pub no : (above_greatest p ≡ 6) ↔ NoAbove p
-  pub none : (above_greatest p ≡ 0) ↔ NoneAbove p
+  pub hc : (above_greatest p ≡ Some Hc) ↔ HcAbove p
+  pub co : (above_greatest p ≡ Some Co) ↔ CoAbove p
+  pub no : (above_greatest p ≡ Some No) ↔ NoAbove p
+  pub none : (above_greatest p ≡ None) ↔ NoneAbove p
 
 -- Of every prepare.
 abbrev pub BackgroundClaims : Type 0

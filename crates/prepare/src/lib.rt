@@ -6,7 +6,10 @@ ghost use Rattle.std.specs.Prelude.{◌≡◌};
 ghost use Rattle.prepare.specs.Standing.{residue_fit, prepare_stands, above, above_greatest};
 ghost use Rattle.prepare.specs.Claims.{PrepareClaims, BackgroundClaims};
 
-// The HC residue in 10^-6, background less ambient air: the 16 bits of a signed number in two's complement.
+use reading::Channel;
+
+// The HC residue in 10^-6, background less ambient air: the 16 bits of a signed number in two's complement. Bits, and not an `i16`, since
+// document 02 gives two bytes, and a test of the bits needs no signed arithmetic.
 #[derive(Clone, Copy)]
 pub struct Residue(pub u16);
 
@@ -31,31 +34,29 @@ fn residue_fit(residue: Residue) -> bool
 pub fn prepare_stands(p: ZeroCheck) -> bool
     ensures { (result ≡ prepare_stands p) × PrepareClaims }
 {
-    let residue = p.residue;
-    let fit = residue_fit(residue);
-    ((p.hc < 15) & (p.co < 2)) & ((p.no < 25) & fit)
+    p.hc < 15 && p.co < 2 && p.no < 25 && residue_fit(p.residue)
 }
 
-// A background value above the greatest of the channel of this code, by the table of `reading`.
-fn above(code: u8, value: u16) -> bool
-    ensures { result ≡ above code value }
+// A background value above the greatest of its channel, by the table of `reading`.
+fn above(channel: Channel, value: u16) -> bool
+    ensures { result ≡ above channel value }
 {
-    reading::greatest_value(code) < value
+    reading::greatest_value(channel.code()) < value
 }
 
-// The lowest code whose background is above its channel's greatest; 0 where none is.
-// Ruled out: 5 where HC is above too, and 4 for an HC of 9999.
-pub fn above_greatest(p: ZeroCheck) -> u8
+// The channel of the lowest code whose background is above its channel's greatest, if one is.
+// Ruled out: CO where HC is above too, and HC for an HC of 9999.
+// Three tests in turn: over an array of pairs with `find` and `map` the proof did not close.
+pub fn above_greatest(p: ZeroCheck) -> Option<Channel>
     ensures { (result ≡ above_greatest p) × BackgroundClaims }
 {
-    if above(4, p.hc) {
-        return 4;
+    if above(Channel::Hc, p.hc) {
+        Some(Channel::Hc)
+    } else if above(Channel::Co, p.co) {
+        Some(Channel::Co)
+    } else if above(Channel::No, p.no) {
+        Some(Channel::No)
+    } else {
+        None
     }
-    if above(5, p.co) {
-        return 5;
-    }
-    if above(6, p.no) {
-        return 6;
-    }
-    0
 }

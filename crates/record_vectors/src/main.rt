@@ -9,7 +9,6 @@
 // not the program's own.
 #![tactic(auto)]
 
-mod compare;
 mod content;
 mod input;
 mod lines;
@@ -17,24 +16,25 @@ mod output;
 mod reads;
 mod writes;
 
+use std::alloc::Global;
 use std::io;
 use std::io::{BufReader, BufWriter, Read, Write};
 
-// Whether there was an item.
-fn item(input: &mut impl Read, output: &mut impl Write) -> io::Result<bool> {
-    match input::next(input, 1)? {
-        1 => reads::item(input, output)?,
-        2 => writes::item(input, output)?,
-        3 => lines::item(input, output)?,
+// Whether there was an item. The topic is a byte of the input's format, and this match is all of its table.
+fn item(input: &mut impl Read, output: &mut impl Write, alloc: Global) -> io::Result<bool> {
+    match inputs::byte(input)? {
+        1 => reads::item(input, output, alloc)?,
+        2 => writes::item(input, output, alloc)?,
+        3 => lines::item(input, output, alloc)?,
         _ => return Ok(false),
     }
     Ok(true)
 }
 
 // A proved loop has to end: the turns are more than any input has items.
-fn run(input: &mut impl Read, output: &mut impl Write) -> io::Result<()> {
+fn run(input: &mut impl Read, output: &mut impl Write, alloc: Global) -> io::Result<()> {
     for _ in 0..u64::MAX {
-        if !item(input, output)? {
+        if !item(input, output, alloc)? {
             break;
         }
     }
@@ -45,6 +45,6 @@ fn run(input: &mut impl Read, output: &mut impl Write) -> io::Result<()> {
 fn main(rt: HostRuntime) -> io::Result<()> {
     let mut input = BufReader::new(rt.alloc(), rt.stdin())?;
     let mut output = BufWriter::new(rt.alloc(), rt.stdout())?;
-    run(&mut input, &mut output)?;
+    run(&mut input, &mut output, rt.alloc())?;
     output.flush()
 }

@@ -5,44 +5,43 @@ use mathlib.Core.Logic.{◌⊎◌, inl, inr}
 use mathlib.Core.Path.{◌≡◌, refl}
 use native.Mathlib.Omega.{arith}
 use Rattle.refusal.specs.declared.Refusal.{Refusal}
-use Rattle.refusal.specs.declared.Check.{Check}
-use Rattle.refusal.specs.declared.Check.TheVariants.{Fine, Refused}
-use Rattle.refusal.specs.Checking.{◌⨾◌, need}
+use Rattle.std.specs.Prelude.{Ok, Err}
+use Rattle.refusal.specs.Checking.{Check, fine, ◌⨾◌, need}
 
-pub after_fine : {a b : Check} → a ≡ Fine → (a ⨾ b) ≡ b
+pub after_fine : {a b : Check} → a ≡ fine → (a ⨾ b) ≡ b
 unfolding ◌⨾◌
 after_fine e = simp e
 
-pub after_refused : {a : Check} (b : Check) {r : Refusal} → a ≡ Refused r → (a ⨾ b) ≡ Refused r
+pub after_refused : {a : Check} (b : Check) {r : Refusal} → a ≡ Err r → (a ⨾ b) ≡ Err r
 unfolding ◌⨾◌
 after_refused b e = simp e
 
-pub fine_first : (a b : Check) → (a ⨾ b) ≡ Fine → a ≡ Fine
+pub fine_first : (a b : Check) → (a ⨾ b) ≡ fine → a ≡ fine
 unfolding ◌⨾◌
-fine_first Fine b e = refl
-fine_first (Refused r) b e = e
+fine_first (Ok _) b e = refl
+fine_first (Err r) b e = e
 
-pub fine_second : (a b : Check) → (a ⨾ b) ≡ Fine → b ≡ Fine
+pub fine_second : (a b : Check) → (a ⨾ b) ≡ fine → b ≡ fine
 unfolding ◌⨾◌
-fine_second Fine b e = e
-fine_second (Refused r) b e = let z : ◌≡◌ {A = ℕ} 0 1 = cc in absurd (omega arith)
+fine_second (Ok _) b e = e
+fine_second (Err r) b e = let z : ◌≡◌ {A = ℕ} 0 1 = cc in absurd (omega arith)
 
-pub need_true : (b : Bool) (r : Refusal) → need b r ≡ Fine → b ≡ true
+pub need_true : (b : Bool) (r : Refusal) → need b r ≡ fine → b ≡ true
 unfolding need
 need_true true r e = refl
 need_true false r e = let z : ◌≡◌ {A = ℕ} 0 1 = cc in absurd (omega arith)
 
-pub need_holds : {b : Bool} (r : Refusal) → b ≡ true → need b r ≡ Fine
+pub need_holds : {b : Bool} (r : Refusal) → b ≡ true → need b r ≡ fine
 unfolding need
 need_holds r e = simp e
 
 -- Which of two checks refuses.
-pub then_refused : (a b : Check) (r : Refusal) → (a ⨾ b) ≡ Refused r → (a ≡ Refused r) ⊎ ((a ≡ Fine) × (b ≡ Refused r))
+pub then_refused : (a b : Check) (r : Refusal) → (a ⨾ b) ≡ Err r → (a ≡ Err r) ⊎ ((a ≡ fine) × (b ≡ Err r))
 unfolding ◌⨾◌
-then_refused Fine b r e = inr (refl, e)
-then_refused (Refused q) b r e = inl e
+then_refused (Ok _) b r e = inr (refl, e)
+then_refused (Err q) b r e = inl e
 
-pub need_refused : (b : Bool) (q r : Refusal) → need b q ≡ Refused r → (b ≡ false) × (q ≡ r)
+pub need_refused : (b : Bool) (q r : Refusal) → need b q ≡ Err r → (b ≡ false) × (q ≡ r)
 unfolding need
 need_refused true q r e = let z : ◌≡◌ {A = ℕ} 0 1 = cc in absurd (omega arith)
 need_refused false q r e = (refl, cc)

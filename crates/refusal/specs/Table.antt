@@ -1,83 +1,67 @@
--- Document 01's refusal table with the rows that document 02 adds, a row a definition: the cause, its number, and what is returned as the place.
+-- Document 01's refusal table with the rows that document 02 adds: the cause's number, and what is returned as the place.
 use Rattle.std.specs.Prelude.{ℕ}
 use Rattle.refusal.specs.declared.Refusal.{Refusal}
+use Rattle.refusal.specs.declared.Refusal.TheVariants.{EndsEarly, CountNotAllowed, CodeUnfit, SettingUnfit, SaturationUnfit, StopUnfit, BytesLeft, ReadingUnfit, AfterVerdict, OutputShort, ClockEarlier, TestRunning, NoTest, StartLocked, CauseUnfit, InertiaUnfit, PowerUnfit, BackgroundUnfit, WideNotNeeded}
 
--- A refusal's number and place.
-abbrev pub refusal : ℕ → ℕ → Refusal
-refusal number place = record { number = number; place = place }
+-- A row's number.
+abbrev pub number_of : Refusal → ℕ
+number_of (EndsEarly size) = 1
+number_of (CountNotAllowed offset) = 2
+number_of (CodeUnfit offset) = 3
+number_of (SettingUnfit place) = 4
+number_of (SaturationUnfit place) = 5
+number_of (StopUnfit offset) = 6
+number_of (BytesLeft offset) = 7
+number_of (ReadingUnfit place) = 8
+number_of (AfterVerdict offset) = 9
+number_of (OutputShort needed) = 10
+number_of (ClockEarlier last) = 11
+number_of TestRunning = 12
+number_of NoTest = 13
+number_of (StartLocked lock) = 14
+number_of CauseUnfit = 15
+number_of InertiaUnfit = 16
+number_of PowerUnfit = 17
+number_of (BackgroundUnfit code) = 18
+number_of (WideNotNeeded offset) = 19
 
+-- "place returned"; 0 where the row has none.
+abbrev pub place_of : Refusal → ℕ
 -- record ends too early: its length
-abbrev pub ends_early : ℕ → Refusal
-ends_early size = refusal 1 size
-
+place_of (EndsEarly size) = size
 -- count not allowed: offset of count
-abbrev pub count_not_allowed : ℕ → Refusal
-count_not_allowed offset = refusal 2 offset
-
+place_of (CountNotAllowed offset) = offset
 -- code bad, twice, or required one absent: offset of code, or of count
-abbrev pub code_unfit : ℕ → Refusal
-code_unfit offset = refusal 3 offset
-
+place_of (CodeUnfit offset) = offset
 -- setting out of range: offset, or 1 to 7 in a start
-abbrev pub setting_unfit : ℕ → Refusal
-setting_unfit place = refusal 4 place
-
+place_of (SettingUnfit place) = place
 -- saturation value unfit: offset, or 0 in a start
-abbrev pub saturation_unfit : ℕ → Refusal
-saturation_unfit place = refusal 5 place
-
+place_of (SaturationUnfit place) = place
 -- stop unfit: offset of its entry
-abbrev pub stop_unfit : ℕ → Refusal
-stop_unfit offset = refusal 6 offset
-
+place_of (StopUnfit offset) = offset
 -- bytes left: offset of first
-abbrev pub bytes_left : ℕ → Refusal
-bytes_left offset = refusal 7 offset
-
+place_of (BytesLeft offset) = offset
 -- reading unfit: offset (absent: row's start), or code in an event
-abbrev pub reading_unfit : ℕ → Refusal
-reading_unfit place = refusal 8 place
-
+place_of (ReadingUnfit place) = place
 -- row or stop after verdict: its offset
-abbrev pub after_verdict : ℕ → Refusal
-after_verdict offset = refusal 9 offset
-
+place_of (AfterVerdict offset) = offset
 -- output too short: length needed
-abbrev pub output_short : ℕ → Refusal
-output_short needed = refusal 10 needed
-
+place_of (OutputShort needed) = needed
 -- clock earlier than the last: last clock
-abbrev pub clock_earlier : ℕ → Refusal
-clock_earlier last = refusal 11 last
-
+place_of (ClockEarlier last) = last
 -- test running (all but power-on, second, stop)
-abbrev pub test_running : Refusal
-test_running = refusal 12 0
-
+place_of TestRunning = 0
 -- second or stop, no test
-abbrev pub no_test : Refusal
-no_test = refusal 13 0
-
+place_of NoTest = 0
 -- start locked: lock number
-abbrev pub start_locked : ℕ → Refusal
-start_locked lock = refusal 14 lock
-
+place_of (StartLocked lock) = lock
 -- stop cause, V or U unfit
-abbrev pub cause_unfit : Refusal
-cause_unfit = refusal 15 0
-
+place_of CauseUnfit = 0
 -- inertia of a coast-down run out of range (document 02, A.2)
-abbrev pub inertia_unfit : Refusal
-inertia_unfit = refusal 16 0
-
+place_of InertiaUnfit = 0
 -- power of a coast-down run out of range (document 02, A.2)
-abbrev pub power_unfit : Refusal
-power_unfit = refusal 17 0
-
+place_of PowerUnfit = 0
 -- background value of a prepare above its channel's greatest: the lowest such code (document 02, A.5)
-abbrev pub background_unfit : ℕ → Refusal
-background_unfit code = refusal 18 code
-
+place_of (BackgroundUnfit code) = code
 -- wide form of the channels not needed: the count's offset (document 02, A.6)
-abbrev pub wide_not_needed : ℕ → Refusal
-wide_not_needed offset = refusal 19 offset
+place_of (WideNotNeeded offset) = offset

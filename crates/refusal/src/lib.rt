@@ -1,87 +1,116 @@
-// A refusal as the table of document 01 and the requests of document 02 give it: the cause's number and the place returned with it.
-// The table's rows are the definitions in specs/Table.antt, which every crate's contracts cite, and their numbers the constants here,
-// which every crate's code takes. One check after another is `then`.
+// A refusal as the table of document 01 and the requests of document 02 give it: one variant a row, with what the row returns as the place.
+// specs/Table.antt has the number and the place of each. A check that may refuse answers a `Check`; one check after another is `?`.
 #![tactic(auto)]
 
 ghost use Rattle.std.specs.Prelude.{◌≡◌};
-ghost use Rattle.refusal.specs.Checking.{◌⨾◌};
+ghost use Rattle.refusal.specs.Table.{number_of, place_of};
 
-#[derive(Clone, Copy)]
-pub struct Refusal {
-    pub number: u8,
-    pub place: usize,
+use std::fmt;
+
+#[derive(Clone, Copy, Debug, PartialEq, Eq)]
+pub enum Refusal {
+    // record ends too early: its length
+    EndsEarly(usize),
+    // count not allowed: offset of count
+    CountNotAllowed(usize),
+    // code bad, twice, or required one absent: offset of code, or of count
+    CodeUnfit(usize),
+    // setting out of range: offset, or 1 to 7 in a start
+    SettingUnfit(usize),
+    // saturation value unfit: offset, or 0 in a start
+    SaturationUnfit(usize),
+    // stop unfit: offset of its entry
+    StopUnfit(usize),
+    // bytes left: offset of first
+    BytesLeft(usize),
+    // reading unfit: offset (absent: row's start), or code in an event
+    ReadingUnfit(usize),
+    // row or stop after verdict: its offset
+    AfterVerdict(usize),
+    // output too short: length needed
+    OutputShort(usize),
+    // clock earlier than the last: last clock
+    ClockEarlier(u32),
+    // test running (all but power-on, second, stop)
+    TestRunning,
+    // second or stop, no test
+    NoTest,
+    // start locked: lock number (the enum of locks stands in a crate above)
+    StartLocked(u8),
+    // stop cause, V or U unfit
+    CauseUnfit,
+    // inertia of a coast-down run out of range
+    InertiaUnfit,
+    // power of a coast-down run out of range
+    PowerUnfit,
+    // background value of a prepare above its channel's greatest: the lowest such code (the enum of channels stands in a crate above)
+    BackgroundUnfit(u8),
+    // wide form of the channels not needed: the count's offset
+    WideNotNeeded(usize),
 }
 
 // What one check tells.
-#[derive(Clone, Copy)]
-pub enum Check {
-    Fine,
-    Refused(Refusal),
+pub type Check = Result<(), Refusal>;
+
+impl Refusal {
+    // The cause's number. Ruled out: rows counted from 0; the number of another row.
+    pub fn number(self) -> u8
+        ensures { result ≡ number_of self }
+    {
+        match self {
+            Refusal::EndsEarly(_) => 1,
+            Refusal::CountNotAllowed(_) => 2,
+            Refusal::CodeUnfit(_) => 3,
+            Refusal::SettingUnfit(_) => 4,
+            Refusal::SaturationUnfit(_) => 5,
+            Refusal::StopUnfit(_) => 6,
+            Refusal::BytesLeft(_) => 7,
+            Refusal::ReadingUnfit(_) => 8,
+            Refusal::AfterVerdict(_) => 9,
+            Refusal::OutputShort(_) => 10,
+            Refusal::ClockEarlier(_) => 11,
+            Refusal::TestRunning => 12,
+            Refusal::NoTest => 13,
+            Refusal::StartLocked(_) => 14,
+            Refusal::CauseUnfit => 15,
+            Refusal::InertiaUnfit => 16,
+            Refusal::PowerUnfit => 17,
+            Refusal::BackgroundUnfit(_) => 18,
+            Refusal::WideNotNeeded(_) => 19,
+        }
+    }
+
+    // What is returned as the place; 0 where the table has "-". Ruled out: the number for the place; 0 for a row that returns one.
+    pub fn place(self) -> usize
+        ensures { result ≡ place_of self }
+    {
+        match self {
+            Refusal::EndsEarly(place)
+            | Refusal::CountNotAllowed(place)
+            | Refusal::CodeUnfit(place)
+            | Refusal::SettingUnfit(place)
+            | Refusal::SaturationUnfit(place)
+            | Refusal::StopUnfit(place)
+            | Refusal::BytesLeft(place)
+            | Refusal::ReadingUnfit(place)
+            | Refusal::AfterVerdict(place)
+            | Refusal::OutputShort(place)
+            | Refusal::WideNotNeeded(place) => place,
+            Refusal::ClockEarlier(clock) => clock as usize,
+            Refusal::StartLocked(lock) => lock as usize,
+            Refusal::BackgroundUnfit(code) => code as usize,
+            Refusal::TestRunning
+            | Refusal::NoTest
+            | Refusal::CauseUnfit
+            | Refusal::InertiaUnfit
+            | Refusal::PowerUnfit => 0,
+        }
+    }
 }
 
-// record ends too early
-pub const ENDS_EARLY: u8 = 1;
-
-// count not allowed
-pub const COUNT_NOT_ALLOWED: u8 = 2;
-
-// code bad, twice, or required one absent
-pub const CODE_UNFIT: u8 = 3;
-
-// setting out of range
-pub const SETTING_UNFIT: u8 = 4;
-
-// saturation value unfit
-pub const SATURATION_UNFIT: u8 = 5;
-
-// stop unfit
-pub const STOP_UNFIT: u8 = 6;
-
-// bytes left
-pub const BYTES_LEFT: u8 = 7;
-
-// reading unfit
-pub const READING_UNFIT: u8 = 8;
-
-// row or stop after verdict
-pub const AFTER_VERDICT: u8 = 9;
-
-// output too short
-pub const OUTPUT_SHORT: u8 = 10;
-
-// clock earlier than the last
-pub const CLOCK_EARLIER: u8 = 11;
-
-// test running (all but power-on, second, stop)
-pub const TEST_RUNNING: u8 = 12;
-
-// second or stop, no test
-pub const NO_TEST: u8 = 13;
-
-// start locked
-pub const START_LOCKED: u8 = 14;
-
-// stop cause, V or U unfit
-pub const CAUSE_UNFIT: u8 = 15;
-
-// coast-down inertia out of range
-pub const INERTIA_UNFIT: u8 = 16;
-
-// coast-down power out of range
-pub const POWER_UNFIT: u8 = 17;
-
-// background value of a prepare above its channel's greatest
-pub const BACKGROUND_UNFIT: u8 = 18;
-
-// wide form of the channels not needed
-pub const WIDE_NOT_NEEDED: u8 = 19;
-
-// The first refusal of two checks. Ruled out: the second check's refusal where both refuse; fine where one of them refuses.
-pub fn then(first: Check, second: Check) -> Check
-    ensures { result ≡ (first ⨾ second) }
-{
-    match first {
-        Check::Fine => second,
-        Check::Refused(r) => Check::Refused(r),
+// As the programs print it; no clause of `Display` states a text.
+impl fmt::Display for Refusal {
+    fn fmt<W: fmt::Write>(&self, f: &mut fmt::Formatter<W>) -> fmt::Result {
+        write!(f, "refused {} {}", self.number(), self.place())
     }
 }

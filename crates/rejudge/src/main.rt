@@ -5,11 +5,11 @@
 
 ghost use Rattle.std.specs.Io.{ReadsAtMost};
 
-use record::Written;
 use std::io;
 use std::io::Read;
 
-// Reads until the buffer is full or the input ends, and answers how many bytes it put at the start.
+// Reads until the buffer is full or the input ends, and answers how many bytes it put at the start: memory is fixed, and std's readers to an
+// input's end take the heap.
 fn read_full(input: &mut impl Read, into: &mut [u8]) -> io::Result<usize>
     ensures { ReadsAtMost result into.new }
 {
@@ -30,7 +30,7 @@ fn main(rt: HostRuntime) -> io::Result<()> {
     let n = read_full(&mut rt.stdin(), &mut input)?;
     let mut output = [0u8; 192];
     let written = rejudging::line(rejudging::rejudge(&input[..n]), &mut output);
-    if let Written::Whole(k) = written {
+    if let Ok(k) = written {
         rt.write_all(&output[..k])?;
     }
     Ok(())

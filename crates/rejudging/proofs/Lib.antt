@@ -5,7 +5,6 @@ pub mod Spelling
 pub mod Pieces
 pub mod Turns
 pub mod WasRead
-pub mod Begun
 pub mod FirstBytes
 pub mod Lengths
 pub mod Keeping

@@ -1,9 +1,10 @@
 pub mod Rows
 pub mod Items
+pub mod Left
+pub mod Settings
 pub mod Sheets
 pub mod Taking
 pub mod Rejudging
 pub mod Inputs
 pub mod Line
-pub mod Storing
 pub mod Laws

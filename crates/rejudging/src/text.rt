@@ -1,9 +1,9 @@
-// The printed line, put together in a run of bytes. Each function answers the offset after what it has put.
-ghost use Rattle.std.specs.Prelude.{◌≡◌, ◌+◌, ◌≤◌, length};
+// The printed line, put together piece by piece. It is 192 bytes of its own, since std's formatter says nothing of what failed: where it
+// writes, no proof rules a failure out.
+ghost use Rattle.std.specs.Prelude.{◌≡◌, ◌+◌, ◌≤◌, List, [], ◌++◌, ℕ, length, take};
 ghost use Rattle.rejudging.specs.Line.{
   decimal,
   spaced,
-  newline,
   word_text,
   mode_number,
   averages_text,
@@ -13,66 +13,42 @@ ghost use Rattle.rejudging.specs.Line.{
   refusal_text,
   line_of,
 };
-ghost use Rattle.rejudging.specs.Storing.{Stored};
 
-use crate::{LastWindow, Rejudged, Sheet, Shown};
+use crate::Sheet;
+use loaded_test::Word;
 use refusal::Refusal;
+use std::marker::Model;
 use vehicle::Mode;
-use window::EngineSpeed;
+use window::Averages;
 
-pub(crate) fn put_bytes(out: &mut [u8], at: usize, bytes: &[u8]) -> usize
-    requires { at + length bytes.now ≤ length out.old }
-    ensures { Stored out.old at bytes.now out.new result }
-{
-    let mut i: usize = 0;
-    while i < bytes.len() {
-        out[at + i] = bytes[i];
-        i += 1;
-    }
-    at + i
+// A line as far as it is put.
+#[derive(Drop)]
+pub(crate) struct Line {
+    bytes: [u8; 192],
+    len: usize,
 }
 
-fn put_decimal(out: &mut [u8], at: usize, n: u64) -> usize
-    requires { at + 20 ≤ length out.old }
-    ensures { Stored out.old at (decimal n) out.new result }
-{
-    if n < 10 {
-        out[at] = 48 + n as u8;
-        return at + 1;
-    }
-    let next = put_decimal(out, at, n / 10);
-    out[next] = 48 + (n % 10) as u8;
-    next + 1
+impl Model for Line {
+    ghost Value = { List ℕ };
+
+    ghost view = { λ l. take l.len l.bytes };
+
+    ghost invariant = { λ l. l.len ≤ 192 };
 }
 
-fn put_number(out: &mut [u8], at: usize, n: u64) -> usize
-    requires { at + 21 ≤ length out.old }
-    ensures { Stored out.old at (spaced n) out.new result × (result ≤ at + 21) }
-{
-    out[at] = 32;
-    put_decimal(out, at + 1, n)
-}
-
-fn put_newline(out: &mut [u8], at: usize) -> usize
-    requires { at + 1 ≤ length out.old }
-    ensures { Stored out.old at newline out.new result }
-{
-    out[at] = 10;
-    at + 1
-}
-
-fn put_word(out: &mut [u8], word: Shown) -> usize
-    requires { 10 ≤ length out.old }
-    ensures { Stored out.old 0 (word_text word) out.new result × (result ≤ 10) }
+#[tactic(auto, unfolding(crate::specs::Line::word_text))]
+fn word_text(word: Option<Word>) -> &'static [u8]
+    ensures { result.now ≡ word_text word }
 {
     match word {
-        Shown::Open => put_bytes(out, 0, b"open"),
-        Shown::Pass => put_bytes(out, 0, b"pass"),
-        Shown::Fail => put_bytes(out, 0, b"fail"),
-        Shown::Incomplete => put_bytes(out, 0, b"incomplete"),
+        None => b"open",
+        Some(Word::Pass) => b"pass",
+        Some(Word::Fail) => b"fail",
+        Some(Word::Incomplete) => b"incomplete",
     }
 }
 
+// As `vectors` has it; a number is all that either prints of a mode.
 fn mode_number(mode: Mode) -> u64
     ensures { result ≡ mode_number mode }
 {
@@ -82,69 +58,122 @@ fn mode_number(mode: Mode) -> u64
     }
 }
 
-fn put_averages(out: &mut [u8], at: usize, hc: u32, co: u32, no: u32) -> usize
-    requires { at + 63 ≤ length out.old }
-    ensures { Stored out.old at (averages_text hc co «no») out.new result × (result ≤ at + 63) }
-{
-    let a = put_number(out, at, hc as u64);
-    let b = put_number(out, a, co as u64);
-    put_number(out, b, no as u64)
-}
+// Each method puts a piece behind the others, and asks for its room, which differs with each piece.
+impl Line {
+    fn new() -> Self
+        ensures { result ≡ [] }
+    {
+        Line {
+            bytes: [0; 192],
+            len: 0,
+        }
+    }
 
-fn put_window(out: &mut [u8], at: usize, window: LastWindow) -> usize
-    requires { at + 63 ≤ length out.old }
-    ensures { Stored out.old at (window_text window) out.new result × (result ≤ at + 63) }
-{
-    match window {
-        LastWindow::Of(x) => put_averages(out, at, x.hc, x.co, x.no),
-        LastWindow::Absent => put_bytes(out, at, b" - - -"),
+    pub(crate) fn as_slice(&self) -> &[u8]
+        ensures { result.now ≡ self.now }
+    {
+        &self.bytes[..self.len]
+    }
+
+    #[tactic(auto, using(std::proofs::lemmas::Slice::overwrites))]
+    fn push(&mut self, piece: &[u8])
+        requires { length self.old + length piece.now ≤ 192 }
+        ensures { self.new ≡ self.old ++ piece.now }
+    {
+        let end = self.len + piece.len();
+        self.bytes[self.len..end].copy_from_slice(piece);
+        self.len = end;
+    }
+
+    // In digits, since `Display` states no text; a digit is cast where it is proved to fit.
+    fn decimal(&mut self, n: u64)
+        requires { length self.old + length (decimal n) ≤ 192 }
+        ensures { self.new ≡ self.old ++ decimal n }
+    {
+        if n < 10 {
+            self.push(&[b'0' + n as u8]);
+            return;
+        }
+        self.decimal(n / 10);
+        self.push(&[b'0' + (n % 10) as u8]);
+    }
+
+    #[tactic(auto, unfolding(crate::specs::Line::spaced))]
+    fn spaced(&mut self, n: u64)
+        requires { length self.old + length (spaced n) ≤ 192 }
+        ensures { self.new ≡ self.old ++ spaced n }
+    {
+        self.push(b" ");
+        self.decimal(n);
+    }
+
+    #[tactic(auto, unfolding(crate::specs::Line::averages_text))]
+    fn averages(&mut self, x: Averages)
+        requires { length self.old + length (averages_text x.hc x.co x.no) ≤ 192 }
+        ensures { self.new ≡ self.old ++ averages_text x.hc x.co x.no }
+    {
+        self.spaced(x.hc as u64);
+        self.spaced(x.co as u64);
+        self.spaced(x.no as u64);
+    }
+
+    #[tactic(auto, unfolding(crate::specs::Line::window_text))]
+    fn window(&mut self, window: Option<Averages>)
+        requires { length self.old + length (window_text window) ≤ 192 }
+        ensures { self.new ≡ self.old ++ window_text window }
+    {
+        match window {
+            Some(x) => self.averages(x),
+            None => self.push(b" - - -"),
+        }
+    }
+
+    #[tactic(auto, unfolding(crate::specs::Line::engine_text))]
+    fn engine(&mut self, engine: Option<u16>)
+        requires { length self.old + length (engine_text engine) ≤ 192 }
+        ensures { self.new ≡ self.old ++ engine_text engine }
+    {
+        match engine {
+            Some(n) => self.spaced(n as u64),
+            None => self.push(b" -"),
+        }
+    }
+
+    #[tactic(auto, unfolding(crate::specs::Line::sheet_text))]
+    fn sheet(&mut self, x: Sheet)
+        requires { length self.old + length (sheet_text x) ≤ 192 }
+        ensures { self.new ≡ self.old ++ sheet_text x }
+    {
+        self.push(word_text(x.word));
+        self.spaced(mode_number(x.mode));
+        self.spaced(x.t as u64);
+        self.spaced(x.passing as u64);
+        self.spaced(x.failing as u64);
+        self.window(x.window);
+        self.engine(x.engine);
+        self.push(b"\n");
+    }
+
+    #[tactic(auto, unfolding(crate::specs::Line::refusal_text, crate::specs::Line::refused_text))]
+    fn refusal(&mut self, r: Refusal)
+        requires { length self.old + length (refusal_text r) ≤ 192 }
+        ensures { self.new ≡ self.old ++ refusal_text r }
+    {
+        self.push(b"refused");
+        self.spaced(r.number() as u64);
+        self.spaced(r.place() as u64);
+        self.push(b"\n");
     }
 }
 
-fn put_engine(out: &mut [u8], at: usize, engine: EngineSpeed) -> usize
-    requires { at + 21 ≤ length out.old }
-    ensures { Stored out.old at (engine_text engine) out.new result × (result ≤ at + 21) }
+#[tactic(auto, using(crate::proofs::Lengths::line_fits_lem), unfolding(crate::specs::Line::line_of))]
+pub(crate) fn line_of(r: Result<Sheet, Refusal>) -> Line
+    ensures { result ≡ line_of r }
 {
-    match engine {
-        EngineSpeed::Mean(n) => put_number(out, at, n as u64),
-        EngineSpeed::Absent => put_bytes(out, at, b" -"),
-    }
-}
-
-fn put_sheet(out: &mut [u8], x: Sheet) -> usize
-    requires { 192 ≤ length out.old }
-    ensures { Stored out.old 0 (sheet_text x) out.new result × (result ≤ 192) }
-{
-    let word = x.word;
-    let mode = x.mode;
-    let window = x.window;
-    let engine = x.engine;
-    let a = put_word(out, word);
-    let b = put_number(out, a, mode_number(mode));
-    let c = put_number(out, b, x.t as u64);
-    let d = put_number(out, c, x.passing as u64);
-    let e = put_number(out, d, x.failing as u64);
-    let f = put_window(out, e, window);
-    let g = put_engine(out, f, engine);
-    put_newline(out, g)
-}
-
-fn put_refusal(out: &mut [u8], r: Refusal) -> usize
-    requires { 192 ≤ length out.old }
-    ensures { Stored out.old 0 (refusal_text r) out.new result × (result ≤ 192) }
-{
-    let a = put_bytes(out, 0, b"refused");
-    let b = put_number(out, a, r.number as u64);
-    let c = put_number(out, b, r.place as u64);
-    put_newline(out, c)
-}
-
-pub(crate) fn put_line(out: &mut [u8], r: Rejudged) -> usize
-    requires { 192 ≤ length out.old }
-    ensures { Stored out.old 0 (line_of r) out.new result × (result ≤ 192) }
-{
+    let mut line = Line::new();
     match r {
-        Rejudged::Judged(x) => put_sheet(out, x),
-        Rejudged::Refused(x) => put_refusal(out, x),
+        Ok(x) => line.sheet(x),
+        Err(refusal) => line.refusal(refusal),
     }
+    line
 }

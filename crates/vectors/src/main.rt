@@ -3,7 +3,6 @@
 #![tactic(auto)]
 
 mod corrections;
-mod input;
 mod output;
 mod readings;
 mod tests;
@@ -11,14 +10,15 @@ mod tests;
 use std::io;
 use std::io::{BufReader, BufWriter, Read, Write};
 
-// The items, until the input ends.
+// The items, until the input ends. A topic is a byte of the input's format, as are the tags of corrections.rt and tests.rt: the match is all
+// that there is to a table of them.
 fn run(input: &mut impl Read, output: &mut impl Write) -> io::Result<()> {
     let mut running = loaded_test::none_running();
     for _ in 0..1_000_000 {
-        match input::topic(input)? {
-            1 => readings::item(input, output)?,
-            2 => corrections::item(input, output)?,
-            3 => running = tests::item(input, output, running)?,
+        match input.bytes().next().transpose()? {
+            Some(1) => readings::item(input, output)?,
+            Some(2) => corrections::item(input, output)?,
+            Some(3) => running = tests::item(input, output, running)?,
             _ => break,
         }
     }

@@ -1,127 +1,94 @@
 // A reading of one code, or the eight readings of a second, and what they become.
-use reading::{Converted, Level, Reading, Readings, Second};
+use reading::{ByChannel, Channel, Level, Reading, Readings, Second};
 use std::io;
 use std::io::{Read, Write};
 
 // Tag 1: code, gearbox, bits. Tag 2: gearbox, the bits of codes 1 to 8.
 pub(crate) fn item(input: &mut impl Read, output: &mut impl Write) -> io::Result<()> {
-    let tag = crate::input::byte(input)?;
-    if tag == 1 {
+    if inputs::byte(input)? == 1 {
         return one(input, output);
     }
-    let automatic = crate::input::byte(input)? == 2;
-    let r = eight(input)?;
-    let found = reading::second_of(r, automatic);
-    match found {
-        Converted::Fit(s) => all(output, s),
-        Converted::Refused(r) => crate::output::refused(output, r),
+    let automatic = inputs::byte(input)? == 2;
+    match reading::second_of(inputs::readings(input)?, automatic) {
+        Ok(s) => all(output, s),
+        Err(r) => writeln!(output, "{r}"),
     }
-}
-
-pub(crate) fn eight(input: &mut impl Read) -> io::Result<Readings> {
-    Ok(Readings {
-        speed: next(input)?,
-        load: next(input)?,
-        engine: next(input)?,
-        hc: next(input)?,
-        co: next(input)?,
-        no: next(input)?,
-        co2: next(input)?,
-        o2: next(input)?,
-    })
-}
-
-fn next(input: &mut impl Read) -> io::Result<Reading> {
-    Ok(reading::from_bits(crate::input::long(input)?))
 }
 
 // The other seven codes read 0.
 fn one(input: &mut impl Read, output: &mut impl Write) -> io::Result<()> {
-    let code = crate::input::byte(input)?;
-    let automatic = crate::input::byte(input)? == 2;
-    let r = next(input)?;
-    let zero = reading::from_bits(0);
-    let found = reading::second_of(alone(code, r, zero), automatic);
-    match found {
-        Converted::Fit(s) => unit_of(output, s, code),
-        Converted::Refused(r) => crate::output::refused(output, r),
+    let channel = Channel::try_from(inputs::byte(input)?).ok();
+    let automatic = inputs::byte(input)? == 2;
+    let r = inputs::reading(input)?;
+    match reading::second_of(alone(channel, r), automatic) {
+        Ok(s) => unit_of(output, s, channel),
+        Err(r) => writeln!(output, "{r}"),
     }
 }
 
-// A reading at its code, and another at the other seven.
-pub(crate) fn alone(code: u8, r: Reading, zero: Reading) -> Readings {
-    Readings {
-        speed: at(1, code, r, zero),
-        load: at(2, code, r, zero),
-        engine: at(3, code, r, zero),
-        hc: at(4, code, r, zero),
-        co: at(5, code, r, zero),
-        no: at(6, code, r, zero),
-        co2: at(7, code, r, zero),
-        o2: at(8, code, r, zero),
-    }
-}
-
-fn at(place: u8, code: u8, r: Reading, zero: Reading) -> Reading {
-    if place == code { r } else { zero }
-}
-
-// One code's unit count, or why it has none.
-fn unit_of(output: &mut impl Write, s: Second, code: u8) -> io::Result<()> {
-    if s.over() {
-        return crate::output::text(output, b"over\n");
-    }
-    if (code == 3) & s.engine_missing() {
-        return crate::output::text(output, b"missing\n");
-    }
-    if code == 8 {
-        level(output, s.oxygen())?;
+// A reading at its channel, and 0 at the other seven.
+pub(crate) fn alone(channel: Option<Channel>, r: Reading) -> Readings {
+    let at = |c: Channel| if channel == Some(c) {
+        r
     } else {
-        crate::output::number(output, count_of(s, code) as u64)?;
-    }
-    crate::output::text(output, b"\n")
-}
-
-fn count_of(s: Second, code: u8) -> u16 {
-    match code {
-        1 => s.speed(),
-        2 => s.load(),
-        3 => s.engine(),
-        4 => s.hc(),
-        5 => s.co().0,
-        6 => s.no(),
-        _ => s.co2().0,
+        reading::from_bits(0)
+    };
+    ByChannel {
+        speed: at(Channel::Speed),
+        load: at(Channel::Load),
+        engine: at(Channel::Engine),
+        hc: at(Channel::Hc),
+        co: at(Channel::Co),
+        no: at(Channel::No),
+        co2: at(Channel::Co2),
+        o2: at(Channel::O2),
     }
 }
 
-fn level(output: &mut impl Write, l: Level) -> io::Result<()> {
-    match l {
-        Level::Count(n) => crate::output::number(output, n as u64),
-        Level::Missing => crate::output::text(output, b"missing"),
-        Level::Over => crate::output::text(output, b"over"),
+// One channel's unit count, or why it has none.
+fn unit_of(output: &mut impl Write, s: Second, channel: Option<Channel>) -> io::Result<()> {
+    match level_of(s, channel) {
+        _ if s.over() => writeln!(output, "over"),
+        Level::Count(n) => writeln!(output, "{n}"),
+        Level::Missing => writeln!(output, "missing"),
+        Level::Over => writeln!(output, "over"),
     }
 }
 
-fn cell(output: &mut impl Write, n: u16) -> io::Result<()> {
-    crate::output::number(output, n as u64)?;
-    crate::output::text(output, b" ")
+fn level_of(s: Second, channel: Option<Channel>) -> Level {
+    match channel {
+        Some(Channel::Speed) => Level::Count(s.speed()),
+        Some(Channel::Load) => Level::Count(s.load()),
+        Some(Channel::Engine) => s.engine().map_or(Level::Missing, Level::Count),
+        Some(Channel::Hc) => Level::Count(s.hc()),
+        Some(Channel::Co) => Level::Count(s.co().0),
+        Some(Channel::No) => Level::Count(s.no()),
+        Some(Channel::O2) => s.oxygen(),
+        Some(Channel::Co2) | None => Level::Count(s.co2().0),
+    }
 }
 
-// The counts of codes 1 to 7, the level of code 8, and the two flags where they are set.
+// The counts of codes 1 to 7, 0 for an engine speed that is missing, the level of code 8, and what else there is to say.
 fn all(output: &mut impl Write, s: Second) -> io::Result<()> {
-    cell(output, s.speed())?;
-    cell(output, s.load())?;
-    cell(output, s.engine())?;
-    cell(output, s.hc())?;
-    cell(output, s.co().0)?;
-    cell(output, s.no())?;
-    cell(output, s.co2().0)?;
-    level(output, s.oxygen())?;
-    if s.engine_missing() {
-        crate::output::text(output, b" engine-missing")?;
+    let engine = s.engine();
+    write!(
+        output,
+        "{} {} {} ",
+        s.speed(),
+        s.load(),
+        engine.unwrap_or(0)
+    )?;
+    write!(output, "{} {} {} {} ", s.hc(), s.co().0, s.no(), s.co2().0)?;
+    match s.oxygen() {
+        Level::Count(n) => write!(output, "{n}")?,
+        Level::Missing => write!(output, "missing")?,
+        Level::Over => write!(output, "over")?,
+    }
+    if engine.is_none() {
+        write!(output, " engine-missing")?;
     }
     if s.over() {
-        crate::output::text(output, b" over-range")?;
+        write!(output, " over-range")?;
     }
-    crate::output::text(output, b"\n")
+    writeln!(output)
 }

@@ -5,6 +5,7 @@ use mathlib.Core.Bool.{true}
 use Prim.Native.Nat.{ℕ, ◌≤◌}
 use native.Mathlib.Omega.{arith}
 use borrow.Author.Tests.{eqb-true}
+use Rattle.std.specs.Prelude.{Ok, Err, Result}
 use Rattle.refusal.specs.declared.Refusal.{Refusal}
 use Rattle.refusal.proofs.Picked.{on_pick}
 use Rattle.correction.specs.Humidity.{saturation_fit}
@@ -16,8 +17,6 @@ use Rattle.vehicle.specs.Driving.{aim_of, set_load, target_of}
 use Rattle.vehicle.specs.Claims.{FitFor, CheckedFit}
 use Rattle.vehicle.specs.declared.Settings.{Settings}
 use Rattle.vehicle.specs.declared.Vehicle.{Vehicle}
-use Rattle.vehicle.specs.declared.Checked.{Checked}
-use Rattle.vehicle.specs.declared.Checked.TheVariants.{Fit, Refused}
 use Rattle.vehicle.specs.declared.Mode.{Mode}
 use Rattle.vehicle.specs.declared.Mode.TheVariants.{One, Two}
 use Rattle.vehicle.proofs.Fitness.{humidity_fit_of, pressure_fit_of}
@@ -49,17 +48,17 @@ derived_fit s p f g =
       most = k_most s p f g;
     }
 
-never : (r : Refusal) (v : Vehicle) → Refused r ≡ Fit v → ⊥
+never : (r : Refusal) (v : Vehicle) → ◌≡◌ {A = Result Vehicle Refusal} (Err r) (Ok v) → ⊥
 never r v e = let z : ◌≡◌ {A = ℕ} 0 1 = cc in omega arith
 
-same : (x y : Vehicle) → Fit x ≡ Fit y → x ≡ y
+same : (x y : Vehicle) → ◌≡◌ {A = Result Vehicle Refusal} (Ok x) (Ok y) → x ≡ y
 same x y e = cc
 
 pub checked_fit : CheckedFit
 unfolding checked_of
 checked_fit s p v =
-    on_pick (λ (x : Checked). x ≡ Fit v → FitFor s p v) _ _ _
-    (λ a. on_pick (λ (x : Checked). x ≡ Fit v → FitFor s p v) _ _ _
+    on_pick (λ (x : Result Vehicle Refusal). x ≡ Ok v → FitFor s p v) _ _ _
+    (λ a. on_pick (λ (x : Result Vehicle Refusal). x ≡ Ok v → FitFor s p v) _ _ _
     (λ b e. subst (FitFor s p) (same (vehicle_of s p) v e) (derived_fit s p (eqb-true _ _ a) b))
     (λ b e. absurd (never _ v e)))
     (λ a e. absurd (never _ v e))

@@ -1,27 +1,28 @@
 -- Where all seven settings are fit, k_H is there exactly where p is fit; so `checked_of` by the cases of `humidity_factor`.
 -- Assumes nothing.
-use mathlib.Core.Path.{◌≡◌, refl, ◌∙◌, sym}
+use mathlib.Core.Path.{◌≡◌, refl, ◌∙◌, sym, ap}
 use mathlib.Core.Bool.{Bool, true, false}
 use mathlib.Core.List.{List, [], ◌∷◌}
 use Prim.Native.Nat.{ℕ, zero, suc, ◌+◌, ◌<◌}
 use native.Mathlib.Omega.{arith}
-use lib.Dec.{leb}
+use lib.Dec.{leb, eqb}
 use lib.ListN.{get_or}
-use borrow.Author.Tests.{eq-eqb}
+use borrow.Author.Tests.{eq-eqb, eqb-true}
+use Rattle.refusal.specs.declared.Refusal.TheVariants.{SettingUnfit, SaturationUnfit}
+use Rattle.std.specs.Prelude.{Some, None, Ok, Err, Result}
+use Rattle.refusal.specs.declared.Refusal.{Refusal}
+use Rattle.vehicle.specs.declared.Vehicle.{Vehicle}
 use Rattle.refusal.specs.Choice.{pick, first_unfit}
-use Rattle.refusal.specs.Table.{saturation_unfit}
+use Rattle.refusal.specs.Checking.{fine}
+use Rattle.refusal.proofs.Checks.{need_true, need_refused}
 use Rattle.correction.specs.Humidity.{humidity_fit, pressure_fit, saturation_fit, k_h, humidity_factor}
-use Rattle.correction.specs.declared.Factor.TheVariants.{Millionths, Unfit}
 use Rattle.correction.proofs.Ranges.{both_true}
-use Rattle.vehicle.specs.Settings.{automatic, setting_fit, settings_fit, unfit_place, range_at, ranges}
-use Rattle.vehicle.specs.Limits.{limits_for}
+use Rattle.vehicle.specs.Settings.{automatic, setting_fit, settings_fit, unfit_place, settings_checked, range_at, ranges}
+use Rattle.vehicle.specs.Limits.{Limits, limits_for}
 use Rattle.vehicle.specs.Loads.{aim_for}
 use Rattle.vehicle.specs.Checked.{vehicle_of, checked_of}
 use Rattle.vehicle.specs.declared.Aim.{Aim}
-use Rattle.vehicle.specs.declared.Limits.{Limits}
 use Rattle.vehicle.specs.declared.Settings.{Settings}
-use Rattle.vehicle.specs.declared.Checked.{Checked}
-use Rattle.vehicle.specs.declared.Checked.TheVariants.{Fit, Refused}
 use Rattle.vehicle.specs.declared.Mode.TheVariants.{One, Two}
 
 -- No place is unfit where the first unfit one is 0.
@@ -44,59 +45,68 @@ module _ (s : Settings) (fit : unfit_place s ≡ 0) where
   factor_of :
       (p : ℕ) →
       humidity_factor s.humidity s.pressure p ≡
-      pick (saturation_fit p) (Millionths (k_h s.humidity s.pressure p)) Unfit
+      pick (saturation_fit p) (Some (k_h s.humidity s.pressure p)) None
   unfolding humidity_factor
   factor_of p = rw (humidity_fit_of, pressure_fit_of)
 
   checked_as :
-      (p : ℕ) → checked_of s p ≡ pick (saturation_fit p) (Fit (vehicle_of s p)) (Refused (saturation_unfit 0))
+      (p : ℕ) → checked_of s p ≡ pick (saturation_fit p) (Ok (vehicle_of s p)) (Err (SaturationUnfit 0))
   unfolding checked_of pick
   checked_as p = rw (eq-eqb (unfit_place s) 0 fit)
 
 -- The answer goes by the factor's case.
 none_refused :
-    (t : Bool) (k : ℕ) (x y : Checked) → pick t (Millionths k) Unfit ≡ Unfit → y ≡ pick t x y
+    (t : Bool) (k : ℕ) (x y : Result Vehicle Refusal) → pick t (Some k) None ≡ None → y ≡ pick t x y
 unfolding pick
 none_refused true k x y e = cc
 none_refused false k x y e = refl
 
-some_fit : (t : Bool) (k q : ℕ) (x y : Checked) → pick t (Millionths k) Unfit ≡ Millionths q → pick t x y ≡ x
+some_fit : (t : Bool) (k q : ℕ) (x y : Result Vehicle Refusal) → pick t (Some k) None ≡ Some q → pick t x y ≡ x
 unfolding pick
 some_fit true k q x y e = refl
 some_fit false k q x y e = cc
 
-some_is : (t : Bool) (k q : ℕ) → pick t (Millionths k) Unfit ≡ Millionths q → q ≡ k
+some_is : (t : Bool) (k q : ℕ) → pick t (Some k) None ≡ Some q → q ≡ k
 unfolding pick
 some_is true k q e = cc
 some_is false k q e = cc
 
-module _ (s : Settings) (p : ℕ) (fit : unfit_place s ≡ 0) where
-  pub checked_none :
-      humidity_factor s.humidity s.pressure p ≡ Unfit → Refused (saturation_unfit 0) ≡ checked_of s p
-  checked_none e =
-      none_refused (saturation_fit p) _ _ _ (sym (factor_of s fit p) ∙ e) ∙ sym (checked_as s fit p)
+module _ (s : Settings) (p : ℕ) where
+  -- The first unfit setting is the answer.
+  pub setting_refused : (r : Refusal) → settings_checked s ≡ Err r → checked_of s p ≡ Err r
+  unfolding checked_of pick
+  setting_refused r e =
+      let n = need_refused (eqb (unfit_place s) 0) (SettingUnfit (unfit_place s)) r e in
+      simp n.0 (ap Err n.1)
 
-  pub checked_some :
-      (auto : Bool) (l : Limits) (a b : Aim) (q : ℕ) →
-      auto ≡ automatic s →
-      l ≡ limits_for s.kind s.year →
-      a ≡ aim_for s.kind s.displacement One →
-      b ≡ aim_for s.kind s.displacement Two →
-      humidity_factor s.humidity s.pressure p ≡ Millionths q →
-      Fit
-      (record {
-        automatic = auto;
-        limits = l;
-        first = a;
-        second = b;
-        k = q;
-        humidity = s.humidity;
-        pressure = s.pressure;
-        saturation = p;
-      }) ≡
-      checked_of s p
-  unfolding vehicle_of
-  checked_some auto l a b q eg el ea eb e =
-      let f = sym (factor_of s fit p) ∙ e in
-      rw (eg, el, ea, eb, some_is (saturation_fit p) _ q f)
-      (sym (some_fit (saturation_fit p) _ q (Fit (vehicle_of s p)) _ f) ∙ sym (checked_as s fit p))
+  module _ (fine_settings : settings_checked s ≡ fine) where
+    fit : unfit_place s ≡ 0
+    fit = eqb-true _ 0 (need_true _ _ fine_settings)
+
+    pub checked_none : humidity_factor s.humidity s.pressure p ≡ None → Err (SaturationUnfit 0) ≡ checked_of s p
+    checked_none e = none_refused (saturation_fit p) _ _ _ (sym (factor_of s fit p) ∙ e) ∙ sym (checked_as s fit p)
+
+    pub checked_some :
+        (auto : Bool) (l : Limits) (a b : Aim) (q : ℕ) →
+        auto ≡ automatic s →
+        l ≡ limits_for s.kind s.year →
+        a ≡ aim_for s.kind s.displacement One →
+        b ≡ aim_for s.kind s.displacement Two →
+        humidity_factor s.humidity s.pressure p ≡ Some q →
+        Ok
+        (record {
+          automatic = auto;
+          limits = l;
+          first = a;
+          second = b;
+          k = q;
+          humidity = s.humidity;
+          pressure = s.pressure;
+          saturation = p;
+        }) ≡
+        checked_of s p
+    unfolding vehicle_of
+    checked_some auto l a b q eg el ea eb e =
+        let f = sym (factor_of s fit p) ∙ e in
+        rw (eg, el, ea, eb, some_is (saturation_fit p) _ q f)
+        (sym (some_fit (saturation_fit p) _ q (Ok (vehicle_of s p)) _ f) ∙ sym (checked_as s fit p))

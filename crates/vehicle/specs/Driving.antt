@@ -1,9 +1,9 @@
 -- What a checked vehicle asks of a second: limits, set load, target speed, load tolerance, good engine speed
 -- (document 01, "Limits and loads").
-use Rattle.std.specs.Prelude.{ℕ, ◌+◌, ◌-◌, ◌*◌, max, Bool, false, ◌&&◌, ◌||◌, leb}
+use Rattle.std.specs.Prelude.{ℕ, ◌+◌, ◌-◌, ◌*◌, max, Bool, false, ◌&&◌, ◌||◌, leb, Option, Some, None}
 use Rattle.reading.specs.declared.Second.{Second}
 use Rattle.vehicle.specs.declared.Aim.{Aim}
-use Rattle.vehicle.specs.declared.Limits.{Limits}
+use Rattle.vehicle.specs.Limits.{Limits}
 use Rattle.vehicle.specs.declared.Vehicle.{Vehicle}
 use Rattle.vehicle.specs.declared.Mode.{Mode}
 use Rattle.vehicle.specs.declared.Mode.TheVariants.{One, Two}
@@ -33,9 +33,14 @@ apart a b = (a - b) + (b - a)
 unfoldable pub in_tolerance : ℕ → ℕ → Bool
 in_tolerance load set = leb (50 * apart load set) (max 100 set)
 
+-- "from 3000 to 5000"
+abbrev pub engine_within : Option ℕ → Bool
+engine_within None = false
+engine_within (Some n) = leb 3000 n && leb n 5000
+
 -- "Engine speed is good from 3000 to 5000, or always with an automatic gearbox."
 abbrev pub engine_good : Vehicle → Second → Bool
-engine_good v s = v.automatic || (leb 3000 s.engine && leb s.engine 5000)
+engine_good v s = v.automatic || engine_within s.engine
 
 -- A vehicle of no settings, for a test that is not running.
 abbrev pub blank_vehicle : Vehicle

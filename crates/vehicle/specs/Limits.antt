@@ -1,7 +1,11 @@
 -- Emission limits by kind and registration year (document 01, "Limits and loads"; 004, tables 1 and 2).
-use Rattle.std.specs.Prelude.{ℕ, Bool, true, false, ltb, eqb}
+use Rattle.std.specs.Prelude.{ℕ, Bool, ltb, eqb}
 use Rattle.refusal.specs.Choice.{pick}
-use Rattle.vehicle.specs.declared.Limits.{Limits}
+use Rattle.vehicle.specs.declared.Gases.{Gases}
+
+-- Limits, as the source's alias of this name.
+abbrev pub Limits : Type 0
+Limits = Gases ℕ
 
 -- "Limits CO, HC, NO in units"
 abbrev pub limits : ℕ → ℕ → ℕ → Limits
@@ -17,10 +21,3 @@ limits_for kind year =
     pick (moped kind)
     (pick (ltb year 2001) (limits 1400 3000 450) (limits 750 570 1000))
     (pick (ltb year 2001) (limits 1100 750 340) (limits 950 600 1300))
-
--- The row of a table of these in that order, by whether it is a moped and whether it was registered before 2001.
-unfoldable pub limit_row : Bool → Bool → ℕ
-limit_row false true = 0
-limit_row false false = 1
-limit_row true true = 2
-limit_row true false = 3

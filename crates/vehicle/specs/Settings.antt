@@ -1,14 +1,19 @@
 -- The seven settings of a start or a record and their ranges (document 01, "Test record").
 use Rattle.std.specs.Prelude.{ℕ, Bool, ◌&&◌, List, [], ◌∷◌, leb, eqb, get_or}
 use Rattle.refusal.specs.Choice.{pick, first_unfit}
-use Rattle.vehicle.specs.declared.Range.{Range}
+use Rattle.refusal.specs.Checking.{Check, need}
+use Rattle.refusal.specs.declared.Refusal.TheVariants.{SettingUnfit}
 use Rattle.vehicle.specs.declared.Settings.{Settings}
 
--- A range, both ends included.
+-- A setting's least and greatest value.
+pub record Range : Type 0 where
+  pub low : ℕ
+  pub high : ℕ
+
 abbrev pub range : ℕ → ℕ → Range
 range low high = record { low = low; high = high }
 
--- In a range.
+-- In a range, both ends included.
 abbrev pub within : Range → ℕ → Bool
 within g x = leb g.low x && leb x g.high
 
@@ -49,6 +54,10 @@ settings_fit s =
 -- The place, 1 to 7, of the first unfit setting; 0 where all are fit.
 unfoldable pub unfit_place : Settings → ℕ
 unfit_place s = first_unfit 1 (settings_fit s)
+
+-- "setting out of range | 4 | .. 1 to 7 in a start": the first unfit one.
+abbrev pub settings_checked : Settings → Check
+settings_checked s = need (eqb (unfit_place s) 0) (SettingUnfit (unfit_place s))
 
 -- "gearbox (1 manual, 2 automatic)"
 abbrev pub automatic : Settings → Bool

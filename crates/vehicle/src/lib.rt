@@ -3,10 +3,12 @@
 
 #![tactic(auto)]
 
-ghost use Rattle.std.specs.Prelude.{◌≡◌, ◌≤◌, ◌<◌};
-ghost use Rattle.vehicle.specs.Settings.{setting_fit, unfit_place, automatic};
-ghost use Rattle.vehicle.specs.Limits.{limit_row, limits_for};
-ghost use Rattle.vehicle.specs.Loads.{row_up_to, displacement_bounds, load_for, target_for, aim_for};
+ghost use Rattle.std.specs.Prelude.{◌≡◌};
+ghost use Rattle.refusal.specs.Checking.{need};
+ghost use Rattle.refusal.specs.declared.Refusal.TheVariants.{SettingUnfit};
+ghost use Rattle.vehicle.specs.Settings.{setting_fit, settings_checked, automatic};
+ghost use Rattle.vehicle.specs.Limits.{limits_for};
+ghost use Rattle.vehicle.specs.Loads.{load_for, target_for, aim_for};
 ghost use Rattle.vehicle.specs.Checked.{checked_of};
 ghost use Rattle.vehicle.specs.Driving.{
   blank_vehicle,
@@ -20,12 +22,12 @@ ghost use Rattle.vehicle.specs.Driving.{
 };
 ghost use Rattle.vehicle.specs.Claims.{CheckedFit};
 
-use correction::Factor;
 use reading::Second;
-use refusal::Refusal;
+use refusal::{Check, Refusal};
 
-// The settings in document 01's order, places 1 to 7.
-#[derive(Clone, Copy)]
+// The settings in document 01's order, places 1 to 7: the numbers that were sent. Each may be unfit and is refused by its place, so kind and
+// gearbox are no enums here; what the check makes of them is a `Vehicle`.
+#[derive(Clone, Copy, Debug, PartialEq, Eq)]
 pub struct Settings {
     pub kind: u16,
     pub year: u16,
@@ -36,29 +38,32 @@ pub struct Settings {
     pub pressure: u16,
 }
 
-#[derive(Clone, Copy)]
+#[derive(Clone, Copy, Debug, PartialEq, Eq)]
 pub enum Mode {
     One,
     Two,
 }
 
-// Limits in units: CO 0.01 %, HC and NO 10^-6.
-#[derive(Clone, Copy)]
-pub struct Limits {
-    pub co: u16,
-    pub hc: u16,
-    pub no: u16,
+// What CO, HC and NO have each.
+#[derive(Clone, Copy, Debug, Default, PartialEq, Eq)]
+pub struct Gases<T> {
+    pub co: T,
+    pub hc: T,
+    pub no: T,
 }
 
+// Limits in units: CO 0.01 %, HC and NO 10^-6.
+pub type Limits = Gases<u16>;
+
 // What a mode asks: target speed in 0.1 km/h, set load P in 0.01 kW.
-#[derive(Clone, Copy)]
+#[derive(Clone, Copy, Debug, Default, PartialEq, Eq)]
 pub struct Aim {
     pub speed: u16,
     pub load: u16,
 }
 
 // Checked settings, as the test needs them.
-#[derive(Clone, Copy)]
+#[derive(Clone, Copy, Debug, Default, PartialEq, Eq)]
 pub struct Vehicle {
     automatic: bool,
     limits: Limits,
@@ -71,160 +76,108 @@ pub struct Vehicle {
     saturation: u16,
 }
 
-#[derive(Clone, Copy)]
-pub enum Checked {
-    Fit(Vehicle),
-    Refused(Refusal),
-}
-
-// A setting's least and greatest value.
-#[derive(Clone, Copy)]
-struct Range {
-    low: u16,
-    high: u16,
-}
-
-const RANGES: [Range; 8] = [
-    Range { low: 1, high: 0 },
-    Range { low: 1, high: 2 },
-    Range {
-        low: 1_900,
-        high: 2_100,
-    },
-    Range {
-        low: 1,
-        high: 2_000,
-    },
-    Range { low: 1, high: 2 },
-    Range { low: 0, high: 100 },
-    Range { low: 2, high: 43 },
-    Range {
-        low: 800,
-        high: 1_100,
-    },
-];
-
+// Kind and place are numbers here as well: an enum of two kinds would be made of the one and taken apart at once, and a place is told as it is.
 const MOPED: u16 = 2;
-
-// Motorcycle before and from 2001, moped before and from 2001.
-const LIMITS: [Limits; 4] = [
-    Limits {
-        co: 1_100,
-        hc: 750,
-        no: 340,
-    },
-    Limits {
-        co: 950,
-        hc: 600,
-        no: 1_300,
-    },
-    Limits {
-        co: 1_400,
-        hc: 3_000,
-        no: 450,
-    },
-    Limits {
-        co: 750,
-        hc: 570,
-        no: 1_000,
-    },
-];
-
-const DISPLACEMENT_BOUNDS: [u16; 5] = [50, 100, 125, 200, 250];
-
-const LOADS_ONE: [u16; 6] = [25, 35, 85, 120, 180, 225];
-
-const LOADS_TWO: [u16; 6] = [20, 27, 69, 100, 150, 187];
 
 // Whether a value is fit for the setting at a place, 1 to 7, of a vehicle of this kind.
 // Ruled out: a moped of 51 ml taken, and place 0 or 8 taken for a setting.
+#[tactic(auto, unfolding(crate::specs::Settings::setting_fit, crate::specs::Settings::range_at, crate::specs::Settings::ranges, refusal::specs::Choice::pick))]
 pub fn setting_fit(place: u8, kind: u16, value: u16) -> bool
     ensures { result ≡ setting_fit place kind value }
 {
-    let at = place as usize;
-    if 8 <= at {
-        return false;
+    match place {
+        1 | 4 => (1..=2).contains(&value),
+        2 => (1_900..=2_100).contains(&value),
+        3 if kind == MOPED => (1..=50).contains(&value),
+        3 => (1..=2_000).contains(&value),
+        5 => value <= 100,
+        6 => (2..=43).contains(&value),
+        7 => (800..=1_100).contains(&value),
+        _ => false,
     }
-    if (at == 3) & (kind == MOPED) {
-        return (1 <= value) & (value <= 50);
-    }
-    let range = RANGES[at];
-    (range.low <= value) & (value <= range.high)
 }
 
-// The place, 1 to 7, of the first unfit setting; 0 where all are fit.
-fn unfit_place(s: Settings) -> u8
-    ensures { result ≡ unfit_place s }
+#[tactic(auto, unfolding(refusal::specs::Checking::need))]
+fn setting_checked(place: u8, kind: u16, value: u16) -> Check
+    ensures { result ≡ need (setting_fit place kind value) (SettingUnfit place) }
 {
-    if !setting_fit(1, s.kind, s.kind) {
-        return 1;
+    if setting_fit(place, kind, value) {
+        return Ok(());
     }
-    if !setting_fit(2, s.kind, s.year) {
-        return 2;
-    }
-    if !setting_fit(3, s.kind, s.displacement) {
-        return 3;
-    }
-    if !setting_fit(4, s.kind, s.gearbox) {
-        return 4;
-    }
-    if !setting_fit(5, s.kind, s.humidity) {
-        return 5;
-    }
-    if !setting_fit(6, s.kind, s.temperature) {
-        return 6;
-    }
-    if !setting_fit(7, s.kind, s.pressure) {
-        return 7;
-    }
-    0
+    Err(Refusal::SettingUnfit(place as usize))
 }
 
-// The row of the limits.
-fn limit_row(moped: bool, before: bool) -> usize
-    ensures { (result ≡ limit_row moped before) × (result < 4) }
+// The seven settings in their order.
+#[tactic(auto, unfolding(crate::specs::Settings::unfit_place, refusal::specs::Choice::first_unfit, refusal::specs::Checking::need))]
+fn settings_checked(s: Settings) -> Check
+    ensures { result ≡ settings_checked s }
 {
-    2 * (moped as usize) + (!before as usize)
+    setting_checked(1, s.kind, s.kind)?;
+    setting_checked(2, s.kind, s.year)?;
+    setting_checked(3, s.kind, s.displacement)?;
+    setting_checked(4, s.kind, s.gearbox)?;
+    setting_checked(5, s.kind, s.humidity)?;
+    setting_checked(6, s.kind, s.temperature)?;
+    setting_checked(7, s.kind, s.pressure)
 }
 
 // The limits of a kind and a registration year.
+#[tactic(auto, unfolding(crate::specs::Limits::limits_for, refusal::specs::Choice::pick))]
 fn limits_for(kind: u16, year: u16) -> Limits
     ensures { result ≡ limits_for kind year }
 {
-    let row = limit_row(kind == MOPED, year < 2_001);
-    LIMITS[row]
-}
-
-// The row of the load tables: the first bound that the displacement is not above, or past the last.
-fn displacement_row(displacement: u16) -> usize
-    ensures { (result ≡ row_up_to displacement displacement_bounds) × (result ≤ 5) }
-{
-    let mut i: usize = 0;
-    while i < 5 {
-        if displacement <= DISPLACEMENT_BOUNDS[i] {
-            return i;
-        }
-        i += 1;
+    match (kind == MOPED, year < 2_001) {
+        (false, true) => Limits {
+            co: 1_100,
+            hc: 750,
+            no: 340,
+        },
+        (false, false) => Limits {
+            co: 950,
+            hc: 600,
+            no: 1_300,
+        },
+        (true, true) => Limits {
+            co: 1_400,
+            hc: 3_000,
+            no: 450,
+        },
+        (true, false) => Limits {
+            co: 750,
+            hc: 570,
+            no: 1_000,
+        },
     }
-    i
 }
 
+// Modes 1 and 2, by the displacement.
+#[tactic(auto, unfolding(crate::specs::Loads::load_for, crate::specs::Loads::loads, crate::specs::Loads::row_up_to, crate::specs::Loads::displacement_bounds, refusal::specs::Choice::pick))]
 fn load_for(displacement: u16, mode: Mode) -> u16
     ensures { result ≡ load_for displacement mode }
 {
-    let row = displacement_row(displacement);
+    let (one, two) = match displacement {
+        0..=50 => (25, 20),
+        51..=100 => (35, 27),
+        101..=125 => (85, 69),
+        126..=200 => (120, 100),
+        201..=250 => (180, 150),
+        _ => (225, 187),
+    };
     match mode {
-        Mode::One => LOADS_ONE[row],
-        Mode::Two => LOADS_TWO[row],
+        Mode::One => one,
+        Mode::Two => two,
     }
 }
 
+#[tactic(auto, unfolding(crate::specs::Loads::target_for, refusal::specs::Choice::pick))]
 fn target_for(kind: u16, mode: Mode) -> u16
     ensures { result ≡ target_for kind mode }
 {
-    match mode {
-        Mode::One => { if kind == MOPED { 200 } else { 250 } }
-        Mode::Two => { if kind == MOPED { 300 } else { 400 } }
+    match (mode, kind == MOPED) {
+        (Mode::One, false) => 250,
+        (Mode::One, true) => 200,
+        (Mode::Two, false) => 400,
+        (Mode::Two, true) => 300,
     }
 }
 
@@ -240,24 +193,14 @@ fn aim_for(kind: u16, displacement: u16, mode: Mode) -> Aim
 // The settings checked in order, then p: refusal 4 with the place of the first unfit setting, or 5 with place 0.
 // With it comes the claim about every vehicle that the check gives.
 // Ruled out: 5 given while a setting is unfit, and limits of 2001 given to a vehicle of 2000.
-pub fn checked_of(s: Settings, saturation: u16) -> Checked
+pub fn checked_of(s: Settings, saturation: u16) -> Result<Vehicle, Refusal>
     ensures { (result ≡ checked_of s saturation) × CheckedFit }
 {
-    let place = unfit_place(s);
-    if place != 0 {
-        return Checked::Refused(Refusal {
-            number: refusal::SETTING_UNFIT,
-            place: place as usize,
-        });
-    }
-    let Factor::Millionths(k) = correction::humidity_factor(s.humidity, s.pressure, saturation)
-    else {
-        return Checked::Refused(Refusal {
-            number: refusal::SATURATION_UNFIT,
-            place: 0,
-        });
+    settings_checked(s)?;
+    let Some(k) = correction::humidity_factor(s.humidity, s.pressure, saturation) else {
+        return Err(Refusal::SaturationUnfit(0));
     };
-    Checked::Fit(Vehicle {
+    Ok(Vehicle {
         automatic: is_automatic(s),
         limits: limits_for(s.kind, s.year),
         first: aim_for(s.kind, s.displacement, Mode::One),
@@ -303,6 +246,7 @@ pub fn limits_of(v: Vehicle) -> Limits
 
 // What a mode asks of the vehicle.
 // Ruled out: mode 2's target in mode 1, and the load of one mode with the target of the other.
+#[tactic(auto, unfolding(crate::specs::Driving::aim_of))]
 pub fn aim_of(v: Vehicle, mode: Mode) -> Aim
     ensures { result ≡ aim_of v mode }
 {
@@ -333,22 +277,16 @@ pub fn target(v: Vehicle, mode: Mode) -> u16
 pub fn apart(a: u16, b: u16) -> u16
     ensures { result ≡ apart a b }
 {
-    if a < b {
-        return b - a;
-    }
-    a - b
+    a.abs_diff(b)
 }
 
 // Whether a load is in tolerance of the set load.
 // Ruled out: load 230 in at P 225, and load 26 out at P 25.
+#[tactic(auto, unfolding(crate::specs::Driving::in_tolerance))]
 pub fn in_tolerance(load: u16, set: u16) -> bool
     ensures { result ≡ in_tolerance load set }
 {
-    let off = 50 * (apart(load, set) as u32);
-    if set < 100 {
-        return off <= 100;
-    }
-    off <= (set as u32)
+    50 * u32::from(apart(load, set)) <= u32::from(set.max(100))
 }
 
 // Whether a second's engine speed is good.
@@ -356,8 +294,7 @@ pub fn in_tolerance(load: u16, set: u16) -> bool
 pub fn engine_good(v: Vehicle, s: Second) -> bool
     ensures { result ≡ engine_good v s }
 {
-    let engine = s.engine();
-    v.automatic | ((3_000 <= engine) & (engine <= 5_000))
+    v.automatic | matches!(s.engine(), Some(3_000..=5_000))
 }
 
 // A vehicle of no settings, for a test that is not running.
@@ -365,18 +302,5 @@ pub fn engine_good(v: Vehicle, s: Second) -> bool
 pub fn blank() -> Vehicle
     ensures { result ≡ blank_vehicle }
 {
-    Vehicle {
-        automatic: false,
-        limits: Limits {
-            co: 0,
-            hc: 0,
-            no: 0,
-        },
-        first: Aim { speed: 0, load: 0 },
-        second: Aim { speed: 0, load: 0 },
-        k: 0,
-        humidity: 0,
-        pressure: 0,
-        saturation: 0,
-    }
+    Vehicle::default()
 }

@@ -4,7 +4,7 @@ use lib.Ieee.{of_bits, of_fields, odd}
 use Rattle.refusal.specs.Choice.{pick}
 use Rattle.reading.specs.Kind.{reading_of}
 use Rattle.reading.specs.Rounding.{accepted, half_up, unit_count}
-use Rattle.reading.specs.Units.{judged_of, keep, second_from, second_of}
+use Rattle.reading.specs.Units.{judged_of, keep, second_from, second_of, levels_of}
 use Rattle.correction.specs.Rounding as quotient
 use Rattle.correction.specs.Dilution.{dcf_of}
 use Rattle.correction.specs.Humidity.{k_h}
@@ -13,14 +13,14 @@ use Rattle.vehicle.specs.Driving.{in_tolerance}
 use Rattle.window.specs.Measuring.{measured_of}
 use Rattle.window.specs.Engine.{engine_sum, engine_missing, engine_speed_of}
 use Rattle.coast_down.specs.Passing.{run_passed}
-use Rattle.prepare.specs.Standing.{signed_of, prepare_stands, above_greatest}
+use Rattle.prepare.specs.Standing.{signed_of, prepare_stands}
 use Rattle.locks.specs.Events.{of_speeds}
 use Rattle.locks.specs.Accepted.{since, any, or_else, latest_of}
-use Rattle.locks.specs.Locks.{not_warm, active_clock, overdue, inactive, expired, none_valid, latest_calibration, latest_run, some_passed, not_coasted, not_calibrated, none_good, latest_try, not_signed_in, wrong_tries, wrong_row, password_lock, authority_lock, with_verdict, verdicts_in, unsent_in, unsent_lock, latest_prepare, none_stands, not_prepared, first_standing, lock_in_order, lock_of}
+use Rattle.locks.specs.Locks.{not_warm, active_clock, inactive, expired, none_valid, latest_calibration, latest_run, some_passed, not_coasted, not_calibrated, none_good, latest_try, not_signed_in, wrong_tries, wrong_row, password_lock, authority_lock, with_verdict, verdicts_in, unsent_in, unsent_lock, latest_prepare, none_stands, not_prepared, first_standing, lock_of}
 use Rattle.worked.specs.Cases.{gases, wrong_tries as triedWrong, Worked}
 
 pub worked : Worked
-unfolding of_bits of_fields odd pick reading_of accepted half_up unit_count judged_of keep second_from second_of gases quotient.half_up dcf_of k_h in_tolerance measured_of engine_sum engine_missing engine_speed_of triedWrong run_passed signed_of prepare_stands above_greatest of_speeds since any or_else latest_of not_warm active_clock overdue inactive expired none_valid latest_calibration latest_run some_passed not_coasted not_calibrated none_good latest_try not_signed_in wrong_tries wrong_row password_lock authority_lock with_verdict verdicts_in unsent_in unsent_lock latest_prepare none_stands not_prepared first_standing lock_in_order lock_of
+unfolding of_bits of_fields odd pick reading_of accepted half_up unit_count judged_of keep second_from second_of gases quotient.half_up dcf_of k_h in_tolerance measured_of engine_sum engine_missing engine_speed_of triedWrong run_passed signed_of prepare_stands of_speeds since any or_else latest_of not_warm active_clock inactive expired none_valid latest_calibration latest_run some_passed not_coasted not_calibrated none_good latest_try not_signed_in wrong_tries wrong_row password_lock authority_lock with_verdict verdicts_in unsent_in unsent_lock latest_prepare none_stands not_prepared first_standing lock_of levels_of
 worked = record {
   co_bits = refl;
   co_negative = refl;

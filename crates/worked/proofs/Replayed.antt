@@ -1,10 +1,11 @@
 -- The runs hold on both sides: each answer is computed from the definitions. Assumes nothing.
 use mathlib.Core.Path.{refl}
+use Rattle.refusal.specs.Checking.{◌⨾◌, need}
 use Rattle.bench.specs.Demand.{bench_answers}
 use Rattle.refusal.specs.Choice.{pick, first_unfit}
 use Rattle.reading.specs.Kind.{reading_of}
 use Rattle.reading.specs.Rounding.{accepted, unit_count}
-use Rattle.reading.specs.Units.{judged_of, keep, second_from, second_of}
+use Rattle.reading.specs.Units.{judged_of, keep, second_from, second_of, levels_of}
 use Rattle.correction.specs.Dilution.{dcf_of}
 use Rattle.correction.specs.Humidity.{k_h}
 use Rattle.vehicle.specs.Checked.{vehicle_of, checked_of}
@@ -28,20 +29,19 @@ use Rattle.loaded_test.specs.Settling.{settling_left, closed_one, closed_two, se
 use Rattle.loaded_test.specs.Steps.{measured, in_attempt, second_at, second, is_resting, stop, begun_by, begin}
 use Rattle.loaded_test.specs.Voids.{mode_ended, void_counted, void_next, twice_inconclusive, third_void, void_followed, voided, step_five}
 use Rattle.coast_down.specs.Passing.{run_passed}
-use Rattle.prepare.specs.Standing.{signed_of, prepare_stands, above_greatest}
+use Rattle.prepare.specs.Standing.{signed_of, prepare_stands}
 use Rattle.locks.specs.Events.{of_speeds}
 use Rattle.locks.specs.Accepted.{since, any, or_else, latest_of}
-use Rattle.locks.specs.Locks.{not_warm, active_clock, overdue, inactive, expired, none_valid, latest_calibration, latest_run, some_passed, not_coasted, not_calibrated, none_good, latest_try, not_signed_in, wrong_tries, wrong_row, password_lock, authority_lock, with_verdict, verdicts_in, unsent_in, unsent_lock, latest_prepare, none_stands, not_prepared, first_standing, lock_in_order, lock_of}
-use Rattle.locks.specs.State.{warm_after, calibrated_by, calibrated_after, ran_after, signed_after, active_after, wrong_after, security_after, unsent_after, prepared_by, prepared_after, lock_number}
+use Rattle.locks.specs.Locks.{not_warm, active_clock, inactive, expired, none_valid, latest_calibration, latest_run, some_passed, not_coasted, not_calibrated, none_good, latest_try, not_signed_in, wrong_tries, wrong_row, password_lock, authority_lock, with_verdict, verdicts_in, unsent_in, unsent_lock, latest_prepare, none_stands, not_prepared, first_standing, lock_of}
+use Rattle.locks.specs.State.{first_lock}
 use Rattle.reading.specs.Fitness.{reading_fit, least_unfit}
-use Rattle.bench.specs.Causes.{setting_at, saturation_bad, cause_bad, automatic_of, reading_at, inertia_bad, power_bad, background_at, lock_at, causes, first_cause}
-use Rattle.bench.specs.History.{runs}
-use Rattle.bench.specs.Stepping.{inertia_ruling, power_ruling, background_ruling, service_taken, lock_ruling, start_taken, second_taken, step_by, step}
-use Rattle.bench.specs.Telling.{second_input, verdict_next, verdict_told, ended_by, step_taken, left_by, acceptance, added, tell, history_answers}
+use Rattle.bench.specs.Causes.{setting_at, saturation_bad, cause_bad, automatic_of, reading_at, inertia_bad, power_bad, causes, first_cause, background_in, locked}
+use Rattle.bench.specs.Stepping.{service_taken, start_taken, second_taken, step_by, step}
+use Rattle.bench.specs.Telling.{second_input, verdict_next, verdict_told, ended_by, step_taken, left_by, added, tell, history_answers}
 use Rattle.worked.specs.Runs.{Played}
 
 pub played : Played
-unfolding bench_answers pick reading_of accepted unit_count Rattle.reading.specs.Rounding.half_up judged_of keep second_from second_of dcf_of k_h Rattle.correction.specs.Rounding.half_up vehicle_of checked_of aim_of in_tolerance limits_for row_up_to displacement_bounds loads load_for target_for ranges range_at setting_fit first_unfit unfit_place sum_of sum_no window_passes second_out second_steady measured_of window_valid in_row in_all at_ninety early_pass ending_rule first_speed tallied window_counted restarted ready screened begun_anew watched settled_one settled_two second_one second_two is_running closed concluded window_taken window_judged window_kept measures Rattle.loaded_test.specs.Measuring.judged replay rest_count rested settling_left closed_one closed_two settles_in settles measured in_attempt second_at second is_resting stop begun_by begin Rattle.loaded_test.specs.Steps.stop_taken mode_ended void_counted void_next twice_inconclusive third_void void_followed voided step_five run_passed signed_of prepare_stands above_greatest of_speeds since any or_else latest_of not_warm active_clock overdue inactive expired none_valid latest_calibration latest_run some_passed not_coasted not_calibrated none_good latest_try not_signed_in wrong_tries wrong_row password_lock authority_lock with_verdict verdicts_in unsent_in unsent_lock latest_prepare none_stands not_prepared first_standing lock_in_order lock_of warm_after calibrated_by calibrated_after ran_after signed_after active_after wrong_after security_after unsent_after prepared_by prepared_after lock_number setting_at saturation_bad cause_bad automatic_of reading_fit least_unfit reading_at inertia_bad power_bad background_at lock_at causes first_cause runs inertia_ruling power_ruling background_ruling service_taken lock_ruling start_taken second_taken step_by step Rattle.bench.specs.Stepping.stop_taken second_input verdict_next verdict_told ended_by step_taken left_by acceptance added tell history_answers Rattle.bench.specs.Telling.judged
+unfolding bench_answers pick reading_of accepted unit_count Rattle.reading.specs.Rounding.half_up judged_of keep second_from second_of dcf_of k_h Rattle.correction.specs.Rounding.half_up vehicle_of checked_of aim_of in_tolerance limits_for row_up_to displacement_bounds loads load_for target_for ranges range_at setting_fit first_unfit unfit_place sum_of sum_no window_passes second_out second_steady measured_of window_valid in_row in_all at_ninety early_pass ending_rule first_speed tallied window_counted restarted ready screened begun_anew watched settled_one settled_two second_one second_two is_running closed concluded window_taken window_judged window_kept measures Rattle.loaded_test.specs.Measuring.judged replay rest_count rested settling_left closed_one closed_two settles_in settles measured in_attempt second_at second is_resting stop begun_by begin Rattle.loaded_test.specs.Steps.stop_taken mode_ended void_counted void_next twice_inconclusive third_void void_followed voided step_five run_passed signed_of prepare_stands of_speeds since any or_else latest_of not_warm active_clock inactive expired none_valid latest_calibration latest_run some_passed not_coasted not_calibrated none_good latest_try not_signed_in wrong_tries wrong_row password_lock authority_lock with_verdict verdicts_in unsent_in unsent_lock latest_prepare none_stands not_prepared first_standing lock_of setting_at saturation_bad cause_bad automatic_of reading_fit least_unfit reading_at inertia_bad power_bad causes first_cause service_taken start_taken second_taken step_by step Rattle.bench.specs.Stepping.stop_taken second_input verdict_next verdict_told ended_by step_taken left_by added tell history_answers Rattle.bench.specs.Telling.judged levels_of first_lock background_in locked need ◌⨾◌
 played = record {
   passing = record { bench = refl; history = refl };
   after_void = record { bench = refl; history = refl };

@@ -1,10 +1,9 @@
 -- An event with what is answered to it; a run is a list of them, from a fresh bench.
-use Rattle.std.specs.Prelude.{ℕ, List, [], ◌∷◌}
-use Rattle.refusal.specs.Table.{refusal}
+use Rattle.std.specs.Prelude.{ℕ, List, [], ◌∷◌, Some, None, Ok, Err}
+use Rattle.refusal.specs.declared.Refusal.{Refusal}
 use Rattle.loaded_test.specs.declared.Word.{Word}
 use Rattle.locks.specs.declared.Event.{Event}
-use Rattle.bench.specs.declared.Answer.{Answer}
-use Rattle.bench.specs.declared.Answer.TheVariants as answer
+use Rattle.bench.specs.History.{Answer}
 
 -- An event and its answer.
 pub record Exchange : Type 0 where
@@ -13,17 +12,17 @@ pub record Exchange : Type 0 where
 
 -- It is accepted.
 abbrev pub accepts : Event → Exchange
-accepts e = record { event = e; answer = answer.Accepted }
+accepts e = record { event = e; answer = Ok None }
 
--- It is refused, with this number and place.
-abbrev pub refuses : Event → ℕ → ℕ → Exchange
-refuses e number place = record { event = e; answer = answer.Refused (refusal number place) }
+-- It is refused by this row of the table, with its place.
+abbrev pub refuses : Event → Refusal → Exchange
+refuses e r = record { event = e; answer = Err r }
 
 -- It brings a verdict: word, t, passing, failing.
 abbrev pub judges : Event → Word → ℕ → ℕ → ℕ → Exchange
 judges e word t passing failing = record {
   event = e;
-  answer = answer.Judged (record { word = word; t = t; passing = passing; failing = failing });
+  answer = Ok (Some (record { word = word; t = t; passing = passing; failing = failing }));
 }
 
 -- All of these are accepted, in front of a run.

@@ -1,4 +1,5 @@
 -- Runs about coast-down events (document 02, A.2): what they do to lock 3, and which are refused.
+use Rattle.refusal.specs.declared.Refusal.TheVariants.{ClockEarlier, TestRunning, StartLocked, InertiaUnfit, PowerUnfit}
 use Rattle.std.specs.Prelude.{ℕ, List, [], ◌∷◌}
 use Rattle.coast_down.specs.declared.SpeedRange.{SpeedRange}
 use Rattle.coast_down.specs.declared.SpeedRange.TheVariants.{Faster, Slower}
@@ -16,11 +17,11 @@ uncoasted now = WarmUp now ∷ Calibration now Passed ∷ sign_in now ∷ prepar
 abbrev pub coasted_first : List Exchange
 coasted_first =
     accepted (uncoasted 1)
-    (refuses (start 1) 14 3
+    (refuses (start 1) (StartLocked 3)
     ∷ accepts (faster 2)
-    ∷ refuses (start 2) 14 3
+    ∷ refuses (start 2) (StartLocked 3)
     ∷ accepts (coasting 3 Slower 3444)
-    ∷ refuses (start 3) 14 3
+    ∷ refuses (start 3) (StartLocked 3)
     ∷ accepts (slower 4)
     ∷ accepts (start 4)
     ∷ [])
@@ -29,7 +30,7 @@ coasted_first =
 abbrev pub voided : ℕ → Event → Event → List Exchange → List Exchange
 voided now first second run =
     accepted (uncoasted now)
-    (refuses (start now) 14 3 ∷ accepts first ∷ refuses (start now) 14 3 ∷ accepts second ∷ run)
+    (refuses (start now) (StartLocked 3) ∷ accepts first ∷ refuses (start now) (StartLocked 3) ∷ accepts second ∷ run)
 
 -- A clock setting voids both runs, and so does a power-on.
 abbrev pub coast_down_voided : List Exchange
@@ -44,16 +45,16 @@ abbrev pub failed_run_last : List Exchange
 failed_run_last =
     accepted (ready 0)
     (accepts (coasting 1 Faster 6341)
-    ∷ refuses (start 1) 14 3
+    ∷ refuses (start 1) (StartLocked 3)
     ∷ accepts (slower 2)
-    ∷ refuses (start 2) 14 3
+    ∷ refuses (start 2) (StartLocked 3)
     ∷ accepts (faster 3)
     ∷ accepts (start 3)
     ∷ [])
 
 -- A run does not renew lock 2.
 abbrev pub run_renews_nothing : List Exchange
-run_renews_nothing = accepted (ready 0) (accepts (faster 1801) ∷ refuses (start 1801) 14 2 ∷ [])
+run_renews_nothing = accepted (ready 0) (accepts (faster 1801) ∷ refuses (start 1801) (StartLocked 2) ∷ [])
 
 -- A run of this inertia and power, with a time that passes for none.
 abbrev pub timeless : ℕ → ℕ → ℕ → SpeedRange → Event
@@ -63,14 +64,14 @@ timeless now inertia power speeds = CoastDown now (run_with inertia power speeds
 abbrev pub runs_refused : List Exchange
 runs_refused =
     accepted (ready 5)
-    (refuses (timeless 4 1049 49 Faster) 11 5
-    ∷ refuses (timeless 6 1049 49 Faster) 16 0
-    ∷ refuses (timeless 6 1351 326 Slower) 16 0
-    ∷ refuses (timeless 6 1050 49 Faster) 17 0
-    ∷ refuses (timeless 6 1350 326 Slower) 17 0
+    (refuses (timeless 4 1049 49 Faster) (ClockEarlier 5)
+    ∷ refuses (timeless 6 1049 49 Faster) InertiaUnfit
+    ∷ refuses (timeless 6 1351 326 Slower) InertiaUnfit
+    ∷ refuses (timeless 6 1050 49 Faster) PowerUnfit
+    ∷ refuses (timeless 6 1350 326 Slower) PowerUnfit
     ∷ accepts (start 5)
-    ∷ refuses (timeless 4 1049 49 Faster) 11 5
-    ∷ refuses (timeless 6 1049 49 Faster) 12 0
+    ∷ refuses (timeless 4 1049 49 Faster) (ClockEarlier 5)
+    ∷ refuses (timeless 6 1049 49 Faster) TestRunning
     ∷ accepts (PowerOn 6)
     ∷ accepts (timeless 6 1050 50 Faster)
     ∷ accepts (CoastDown 6 (run_with 1350 325 Slower 4294967295))

@@ -3,7 +3,7 @@ use Rattle.std.specs.Prelude.{ℕ, suc, zero, ◌+◌, false, true, List, [], �
 use Rattle.std.specs.Float.{fin}
 use Rattle.reading.specs.declared.Reading.{Reading}
 use Rattle.reading.specs.declared.Reading.TheVariants.{Value, Missing, Over}
-use Rattle.reading.specs.declared.Readings.{Readings}
+use Rattle.reading.specs.Kind.{Readings}
 use Rattle.vehicle.specs.declared.Settings.{Settings}
 use Rattle.coast_down.specs.declared.SpeedRange.{SpeedRange}
 use Rattle.coast_down.specs.declared.SpeedRange.TheVariants.{Faster, Slower}

@@ -1,4 +1,5 @@
 -- Runs about the locks: which start is locked, and by which lock.
+use Rattle.refusal.specs.declared.Refusal.TheVariants.{StartLocked}
 use Rattle.std.specs.Prelude.{ℕ, List, [], ◌∷◌}
 use Rattle.reading.specs.declared.Reading.TheVariants.{Over}
 use Rattle.loaded_test.specs.declared.Word.TheVariants.{Incomplete}
@@ -17,15 +18,15 @@ stop_renews_nothing =
     ∷ resting
     (accepts (at_one Over)
     ∷ resting
-    (accepts (at_one clean) ∷ judges (Stop 1803 1) Incomplete 0 0 0 ∷ refuses (start 1803) 14 2 ∷ [])))
+    (accepts (at_one clean) ∷ judges (Stop 1803 1) Incomplete 0 0 0 ∷ refuses (start 1803) (StartLocked 2) ∷ [])))
 
 -- The start is locked until warm-up, calibration and sign-in have come again, in front of a run.
 abbrev pub voided : ℕ → List Exchange → List Exchange
 voided now run =
-    refuses (start now) 14 1
+    refuses (start now) (StartLocked 1)
     ∷ accepts (WarmUp now)
-    ∷ refuses (start now) 14 3
-    ∷ accepted (signed_out now) (refuses (start now) 14 4 ∷ run)
+    ∷ refuses (start now) (StartLocked 3)
+    ∷ accepted (signed_out now) (refuses (start now) (StartLocked 4) ∷ run)
 
 -- A clock setting voids warm-up, calibration and sign-in, and so does a power-on.
 abbrev pub session_voided : List Exchange
@@ -37,7 +38,7 @@ session_voided =
 
 -- A passed and then a failed calibration: the latest decides.
 abbrev pub failed_last : List Exchange
-failed_last = accepted (ready 0) (accepts (Calibration 1 Failed) ∷ refuses (start 2) 14 3 ∷ [])
+failed_last = accepted (ready 0) (accepts (Calibration 1 Failed) ∷ refuses (start 2) (StartLocked 3) ∷ [])
 
 -- Four wrong tries across a power-on and a clock setting: lock 5, behind lock 4 until a good try.
 abbrev pub four_wrong : List Exchange
@@ -49,11 +50,11 @@ four_wrong =
     ∷ accepts (ClockSetting 4 5)
     ∷ accepts (Try 5 Wrong)
     ∷ accepted (ready 6)
-    (refuses (start 6) 14 5
+    (refuses (start 6) (StartLocked 5)
     ∷ accepts (Try 7 Wrong)
-    ∷ refuses (start 7) 14 4
+    ∷ refuses (start 7) (StartLocked 4)
     ∷ accepts (sign_in 8)
-    ∷ refuses (start 8) 14 5
+    ∷ refuses (start 8) (StartLocked 5)
     ∷ [])
 
 -- Three wrong tries, an unlock, one more: lock 4, and no lock 5 behind it, since the unlock clears the row.
@@ -63,7 +64,7 @@ unlocked_between =
     (times 3 (accepts (Try 1 Wrong))
     (accepts (AuthorityUnlock 2)
     ∷ accepts (Try 3 Wrong)
-    ∷ refuses (start 4) 14 4
+    ∷ refuses (start 4) (StartLocked 4)
     ∷ accepts (sign_in 5)
     ∷ accepts (start 5)
     ∷ []))
@@ -74,9 +75,9 @@ expired_between =
     accepted (ready 0)
     (times 3 (accepts (Try 2 Wrong))
     (accepts (Try 2 (Good 1))
-    ∷ refuses (start 2) 14 4
+    ∷ refuses (start 2) (StartLocked 4)
     ∷ accepts (Try 3 Wrong)
-    ∷ refuses (start 4) 14 4
+    ∷ refuses (start 4) (StartLocked 4)
     ∷ accepts (sign_in 5)
     ∷ accepts (start 5)
     ∷ []))
@@ -86,7 +87,7 @@ abbrev pub locked_by_authority : List Exchange
 locked_by_authority =
     accepted (ready 0)
     (accepts (AuthorityLock 1)
-    ∷ refuses (start 2) 14 6
+    ∷ refuses (start 2) (StartLocked 6)
     ∷ accepts (AuthorityUnlock 3)
     ∷ accepts (start 3)
     ∷ [])
@@ -106,9 +107,9 @@ unsent =
     (accepted (ready 2)
     (incomplete
     (accepted (ready 2)
-    (refuses (start 2) 14 7
+    (refuses (start 2) (StartLocked 7)
     ∷ accepts (AuthorityUnlock 2)
-    ∷ refuses (start 2) 14 7
+    ∷ refuses (start 2) (StartLocked 7)
     ∷ accepts (Upload 2)
     ∷ accepts (start 2)
     ∷ [])))))

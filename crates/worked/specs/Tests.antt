@@ -1,4 +1,5 @@
 -- Runs of one test to its verdict.
+use Rattle.refusal.specs.declared.Refusal.TheVariants.{NoTest, StartLocked}
 use Rattle.std.specs.Prelude.{List, [], ◌∷◌}
 use Rattle.reading.specs.declared.Reading.TheVariants.{Over}
 use Rattle.loaded_test.specs.declared.Word.TheVariants.{Pass, Fail}
@@ -73,4 +74,4 @@ twice_inconclusive =
 abbrev pub powered_on : List Exchange
 powered_on =
     started
-    (accepts (at_one clean) ∷ accepts (PowerOn 2) ∷ refuses at_rest 13 0 ∷ refuses (start 2) 14 1 ∷ [])
+    (accepts (at_one clean) ∷ accepts (PowerOn 2) ∷ refuses at_rest NoTest ∷ refuses (start 2) (StartLocked 1) ∷ [])

@@ -8,12 +8,14 @@ ghost use Rattle.worked.specs.Runs.{Played};
 // The starred cases, one table; at its end the mean engine speeds of document 02's A.1, the coast-down times of its A.2 and the greatest product of its A.3.
 // Ruled out: 101 units for CO bits 0x3F80A3D7, lock 5 at the third wrong try, a mean of 3999.5 shown as 3999, 107 percent of nominal failed, and
 // a product cut to 24 bits.
+#[tactic(auto, using(crate::proofs::Computed::worked))]
 pub fn starred_cases()
     ensures { Worked }
 {}
 
 // Runs of events from a fresh bench with what the bench and the plain history answer to each.
 // Ruled out: a bench on which no start is admitted, one that tells no verdict but a pass, and one that passes at t = 25 after a dip of 9 at second 6.
+#[tactic(auto, using(crate::proofs::Replayed::played))]
 pub fn played_runs()
     ensures { Played }
 {}

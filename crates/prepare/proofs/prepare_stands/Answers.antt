@@ -1,8 +1,13 @@
--- `prepare::prepare_stands` meets its contract. Assumes nothing.
+use Rattle.std.proofs.Common.{arith}
+use Rattle.std.proofs.lemmas.Grind.{common_steps}
 use Rattle.prepare.specs.Standing.{prepare_stands}
 use Rattle.prepare.proofs.Exact.{prepare_claims}
 use Rattle.prepare.proofs.prepare_stands.Goals as goal
 
-pub returns : goal.returns
+pub returns-then-p-lt25 : goal.returns-then-p-lt25
 unfolding prepare_stands
-returns c = (simp c.residue_fit-fit.ensures, prepare_claims)
+returns-then-p-lt25 c = (grind (arith, common_steps, c.residue_fit.ensures), prepare_claims)
+
+pub returns-else-p-lt25 : goal.returns-else-p-lt25
+unfolding prepare_stands
+returns-else-p-lt25 c = (grind (arith, common_steps), prepare_claims)

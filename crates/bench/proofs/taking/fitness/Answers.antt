@@ -1,5 +1,0 @@
--- `bench::taking::fitness` meets its contract. Assumes nothing.
-use Rattle.bench.proofs.taking.fitness.Goals as goal
-
-pub returns-in-Refused : goal.returns-in-Refused
-returns-in-Refused c = simp c.in-Refused.is

@@ -1,9 +1,0 @@
-use Rattle.bench.proofs.taking.start_judged.Goals as goal
-
--- src/taking.rt:146:1
-pub returns-in-Taken : goal.returns-in-Taken
-returns-in-Taken c = simp c.in-Taken.is c.admitted.ensures
-
--- src/taking.rt:146:1
-pub returns-in-Refused : goal.returns-in-Refused
-returns-in-Refused c = simp c.in-Refused.is c.refused.ensures

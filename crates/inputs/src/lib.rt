@@ -1,0 +1,102 @@
+// What the programs that run vectors read from their input: little-endian numbers, a start's settings, and a second's readings; zeros past
+// the input's end. Each contract says what is given, and what of the input is left, wherever the input's bytes are known.
+#![tactic(auto)]
+
+ghost use Rattle.inputs.specs.Inputs.{
+  byte_of,
+  short_of,
+  long_of,
+  settings_of,
+  reading_in,
+  readings_of,
+  Takes,
+};
+
+use reading::{ByChannel, Readings};
+use std::io;
+use std::io::Read;
+use vehicle::Settings;
+
+// How often a read that was interrupted is tried.
+const TRIES: u64 = u64::MAX;
+
+// The next byte, 0 past the end.
+// Ruled out: a byte left to be read again, and anything but 0 past the end.
+pub fn byte<R: Read>(input: &mut R) -> io::Result<u8>
+    ensures { Takes 1 byte_of (R.remaining input.old) result (R.remaining input.new) }
+{
+    let mut one = [0; 1];
+    for _ in 0..TRIES {
+        match input.read(&mut one) {
+            Ok(0) => return Ok(0),
+            Ok(_) => return Ok(one[0]),
+            Err(e) => {
+                if e.kind() != io::ErrorKind::Interrupted {
+                    return Err(e);
+                }
+            }
+        }
+    }
+    Err(io::Error::from(io::ErrorKind::TimedOut))
+}
+
+// The next two bytes as a number; by `from_le_bytes` the proof over two reads did not close.
+// Ruled out: the high byte first, and one byte read alone.
+pub fn short<R: Read>(input: &mut R) -> io::Result<u16>
+    ensures { Takes 2 short_of (R.remaining input.old) result (R.remaining input.new) }
+{
+    let low = byte(input)?;
+    let high = byte(input)?;
+    Ok((low as u16) + 256 * (high as u16))
+}
+
+// The next four bytes as a number.
+// Ruled out: the high half first, and a half shifted by 8 places alone.
+pub fn long<R: Read>(input: &mut R) -> io::Result<u32>
+    ensures { Takes 4 long_of (R.remaining input.old) result (R.remaining input.new) }
+{
+    let low = short(input)?;
+    let high = short(input)?;
+    Ok((low as u32) + 65_536 * (high as u32))
+}
+
+// The seven settings in their order.
+// Ruled out: humidity and temperature exchanged, and a setting skipped.
+pub fn settings<R: Read>(input: &mut R) -> io::Result<Settings>
+    ensures { Takes 14 settings_of (R.remaining input.old) result (R.remaining input.new) }
+{
+    Ok(Settings {
+        kind: short(input)?,
+        year: short(input)?,
+        displacement: short(input)?,
+        gearbox: short(input)?,
+        humidity: short(input)?,
+        temperature: short(input)?,
+        pressure: short(input)?,
+    })
+}
+
+// A reading of the next 32 bits.
+// Ruled out: a reading of 16 bits, and missing given for every input.
+pub fn reading<R: Read>(input: &mut R) -> io::Result<reading::Reading>
+    ensures { Takes 4 reading_in (R.remaining input.old) result (R.remaining input.new) }
+{
+    Ok(reading::from_bits(long(input)?))
+}
+
+// The readings of codes 1 to 8.
+// Ruled out: two channels exchanged, and one reading given for all eight.
+pub fn readings<R: Read>(input: &mut R) -> io::Result<Readings>
+    ensures { Takes 32 readings_of (R.remaining input.old) result (R.remaining input.new) }
+{
+    Ok(ByChannel {
+        speed: reading(input)?,
+        load: reading(input)?,
+        engine: reading(input)?,
+        hc: reading(input)?,
+        co: reading(input)?,
+        no: reading(input)?,
+        co2: reading(input)?,
+        o2: reading(input)?,
+    })
+}

@@ -1,6 +1,0 @@
--- `none_running` meets its contract. Assumes nothing.
-use mathlib.Core.Path.{◌∙◌}
-use Rattle.loaded_test.proofs.none_running.Goals as goal
-
-pub returns : goal.returns
-returns c = c.test_of.ensures ∙ simp (c.emptied.ensures, c.blank.ensures)
