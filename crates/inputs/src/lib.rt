@@ -1,5 +1,6 @@
 // What the programs that run vectors read from their input: little-endian numbers, a start's settings, and a second's readings; zeros past
-// the input's end. Each contract says what is given, and what of the input is left, wherever the input's bytes are known.
+// the input's end. Each contract says what is given, and what of the input is left, wherever the input's bytes are known. An error and the input
+// after it are left free, since no clause of std says when a read fails; so is everything where the bytes are not known.
 #![tactic(auto)]
 
 ghost use Rattle.inputs.specs.Inputs.{
