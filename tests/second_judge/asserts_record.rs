@@ -1,7 +1,8 @@
 //! Own asserts: records, the writer, round trips, the line.
 
 use crate::items::Items;
-use crate::make_record_vectors::{corner_contents, put_content, sized_content};
+use crate::make_channels::sized_content;
+use crate::make_record_vectors::{corner_contents, put_content};
 use crate::make_records::put_item;
 use crate::modes::{next_read_line, next_write_line, put_line};
 use crate::named_records::{listing, sample, RECORDS};
@@ -80,7 +81,6 @@ pub fn check_records(checks: &mut Checks) {
     same("empty input", &[], "refused 1 0");
     same("bytes left", &[&listing(36).bytes()[..], &[0]].concat(), "refused 7 948");
     same("one short", &listing(36).bytes()[..947], "refused 1 947");
-    same("no channels", &[0], "refused 2 0");
     same("33 channels", &[33], "refused 2 0");
     same("code 0", &text(|c| c.codes[3] = 0), "refused 3 4");
     same("code twice", &text(|c| c.codes[3] = 1), "refused 3 4");
@@ -184,46 +184,22 @@ pub fn check_writer(checks: &mut Checks) {
     }
 }
 
+/// The samples end as their names say: the start of the line, or with a newline the whole.
+#[rustfmt::skip]
 pub fn check_samples(checks: &mut Checks) {
-    let line = |name: &str| sample(name).map_or(String::new(), |bytes| rejudge_line(&bytes));
-    let starts = |name: &str, want: &str| line(name).starts_with(want);
-    checks.same("sample pass", starts("pass", "pass 1 25 16 0 "), true);
-    checks.same("sample dip", starts("dip", "pass 1 90 81 0 "), true);
-    checks.same("sample fail2", starts("fail2", "fail 2 90 0 81 "), true);
-    checks.same(
-        "sample incomplete",
-        starts("incomplete", "incomplete 1 20 11 0 "),
-        true,
-    );
-    checks.same("sample refused", starts("refused", "refused 9 "), true);
-    checks.same("sample hot", starts("hot", "pass 1 25 16 0 "), true);
-    checks.same("sample unfit", line("unfit"), "refused 8 209".into());
-    checks.same(
-        "sample stops",
-        line("stops"),
-        "incomplete 1 0 0 0 - - - -".into(),
-    );
-    checks.same(
-        "sample too_long",
-        line("too_long"),
-        "refused 7 60873".into(),
-    );
-    checks.same(
-        "sample listing",
-        line("listing"),
-        "pass 1 25 16 0 121 121 217 -".into(),
-    );
-    checks.same(
-        "sample engine_speed",
-        starts("engine_speed", "pass 1 25 16 0 121 121 24 "),
-        true,
-    );
-    checks.same(
-        "sample engine_missing",
-        line("engine_missing"),
-        "pass 1 25 16 0 121 121 24 -".into(),
-    );
-    checks.same("sample empty", line("empty"), "open 1 0 0 0 - - - -".into());
+    let ends = [
+        ("pass", "pass 1 25 16 0 "), ("dip", "pass 1 90 81 0 "), ("fail2", "fail 2 90 0 81 "),
+        ("incomplete", "incomplete 1 20 11 0 "), ("refused", "refused 9 "), ("hot", "pass 1 25 16 0 "),
+        ("engine_speed", "pass 1 25 16 0 121 121 24 "), ("engine_missing", "pass 1 25 16 0 121 121 24 -\n"),
+        ("unfit", "refused 8 209\n"), ("stops", "incomplete 1 0 0 0 - - - -\n"),
+        ("too_long", "refused 7 60873\n"), ("too_long_wide", "refused 7 60965\n"),
+        ("listing", "pass 1 25 16 0 121 121 217 -\n"), ("wide", "pass 1 25 16 0 121 121 217 -\n"),
+        ("empty", "open 1 0 0 0 - - - -\n"),
+    ];
+    for (name, end) in ends {
+        let line = sample(name).map_or(String::new(), |bytes| rejudge_line(&bytes) + "\n");
+        checks.same(&format!("sample {name}"), line.starts_with(end), true);
+    }
 }
 
 /// The records by name end as their names say.
@@ -245,11 +221,12 @@ pub fn check_named(checks: &mut Checks) {
         ("engine_zero", "open 1 13 4 0 121 121 25 0"),
         ("dip_eight", "pass 1 25 16 0 "), ("dip_nine", "pass 1 90 81 0 "), ("dip_eleventh", "pass 1 25 16 0 "),
         ("dip_forgotten", "pass 1 25 16 0 "), ("slow_fall", "open 1 25 16 0 "),
+        ("wide_beside", "pass 1 25 16 0 "), ("wide_many", "pass 1 25 16 0 "),
     ];
     for name in RECORDS {
         let line = sample(name).map_or(String::new(), |bytes| rejudge_line(&bytes));
         let end = ends.iter().find(|(known, _)| *known == name).map(|(_, end)| end.to_string());
-        let number = name.strip_prefix("refused_").and_then(|rest| rest.get(..1));
+        let number = name.strip_prefix("refused_").and_then(|rest| rest.split('_').next());
         let want = end.or(number.map(|number| format!("refused {number} ")));
         checks.same(name, want.is_some_and(|want| line.starts_with(&want)), true);
     }

@@ -5,7 +5,7 @@ use crate::dice::{some_settings, Dice};
 use crate::driver::Driver;
 use crate::journal::scripted_events;
 use crate::make_prepares::{any_prepare, failed_prepare, standing_prepare, unfit_prepare};
-use crate::make_records::REACHING_RECORDS;
+use crate::make_records::reaching_records;
 use crate::make_runs::{any_run, failed_run, passed_run};
 use crate::make_tests::{put_event, unfit_second, unfit_start};
 use crate::running::Running;
@@ -39,7 +39,7 @@ fn parameters(seed: u64, dice: &mut Dice) -> (u32, u16) {
 pub fn least() -> [(&'static str, usize); 3] {
     let events = scripted_events(1, MOST_SEEDED_U, &mut Dice(1)).len();
     [
-        ("records", REACHING_RECORDS),
+        ("records", reaching_records()),
         ("tests", REACHING),
         ("events", events),
     ]

@@ -1,31 +1,22 @@
 //! Making input: reading, writing and the line, at the corners of the record.
 
+use crate::channels::Form;
 use crate::dice::Dice;
 use crate::items::Items;
+use crate::make_channels::{
+    channel_corners, channel_records, longest_narrow, sized_content, wide_base, with_channel,
+};
 use crate::make_records::{
-    damage_entry, damaged_record, put_item, scripted_content, short_content, DAMAGES,
+    damage_entry, damaged_record, put_item, raise_code, scripted_content, short_content, DAMAGES,
+    READING_DAMAGES,
 };
 use crate::make_tests::put_topic;
 use crate::modes::write_item;
-use crate::named_records::{listing, small_record};
-use crate::numbers::refusal;
+use crate::named_records::{listing, small_record, BEFORE_WIDE, RECORDS};
+use crate::numbers::{refusal, MISSING};
 use crate::record::Content;
 use crate::rejudging::rejudge_line;
 use crate::scripted_tests::SCRIPTS;
-
-/// A record of so many channels, rows and stops.
-pub fn sized_content(channels: usize, rows: usize, stops: usize) -> Content {
-    let mut content = listing(0);
-    while content.codes.len() < channels {
-        content.codes.push(200 + content.codes.len() as u8);
-    }
-    content.cells = (0..rows * channels)
-        .map(|i| (i as u32).wrapping_mul(2_654_435_761))
-        .collect();
-    content.stop_rows = (0..stops).map(|i| (i.min(rows)) as u16).collect();
-    content.stop_causes = (0..stops).map(|i| 1 + (i % 4) as u8).collect();
-    content
-}
 
 /// Fit and unfit contents at the corners of the record.
 pub fn corner_contents() -> Vec<Content> {
@@ -38,11 +29,12 @@ pub fn corner_contents() -> Vec<Content> {
         sized_content(6, 1500, 1), // the most rows
         sized_content(6, 1501, 0),
         sized_content(13, 1154, 0), // 15,002 cells: the least above 15,000 that rows fill
-        sized_content(30, 500, 255), // 15,000 cells, the longest record
+        longest_narrow(),
     ];
     list.extend(code_corners());
     list.extend(value_corners());
     list.extend(stop_corners());
+    list.extend(channel_corners());
     list
 }
 
@@ -119,39 +111,25 @@ fn stop_corners() -> Vec<Content> {
 pub fn make_read(seed: u64, count: usize) -> Vec<u8> {
     let mut dice = Dice(seed ^ 0x7265_6164);
     let mut out = Vec::new();
-    let small = sized_content(6, 2, 2).bytes();
-    for length in 0..=small.len() {
-        put_item(&mut out, &small[..length]);
-    }
-    for extra in 1..=3 {
-        put_item(&mut out, &[&small[..], &vec![9; extra][..]].concat());
+    for small in [sized_content(6, 2, 2), wide_base()] {
+        put_lengths(&mut out, &small.bytes());
+        put_counts(&mut out, &small);
     }
     for content in corner_contents() {
         let mut bytes = content.bytes();
-        if content.check() == Err(refusal(2, content.codes.len() + 75)) {
-            bytes.truncate(content.codes.len() + 77); // the count of rows is judged before they are there
+        let rows_at = content.settings_at() + 74;
+        if content.check() == Err(refusal(2, rows_at)) {
+            bytes.truncate(rows_at + 2); // the count of rows is judged before they are there
         }
         put_item(&mut out, &bytes);
     }
-    put_two_faults(&mut out);
-    let counts: [(usize, &[u8]); 5] = [
-        (0, &[0, 1, 33]),
-        (7, &[6, 8]),
-        (22, &[28, 30]),
-        (81, &[1, 3]),
-        (131, &[1, 3]),
-    ];
-    for (at, values) in counts {
-        for value in values {
-            let mut record = small.clone();
-            record[at] = *value;
-            put_item(&mut out, &record);
-            // The count alone, and the count with nothing after it, are judged first.
-            put_item(&mut out, &record[..at + 1]);
-        }
+    for record in channel_records() {
+        put_item(&mut out, &record);
     }
+    put_two_faults(&mut out, &sized_content(8, 2, 3));
+    put_two_faults(&mut out, &wide_base());
     for _ in 0..count {
-        let way = dice.below(13) as usize;
+        let way = dice.below(READING_DAMAGES as u64) as usize;
         let mut record = damaged_record(way, &mut dice);
         if dice.percent(30) && !record.is_empty() {
             let i = dice.below(record.len() as u64) as usize;
@@ -162,44 +140,76 @@ pub fn make_read(seed: u64, count: usize) -> Vec<u8> {
     out
 }
 
+/// A record cut at every length, and with bytes left.
+fn put_lengths(out: &mut Vec<u8>, record: &[u8]) {
+    for length in 0..=record.len() {
+        put_item(out, &record[..length]);
+    }
+    for extra in 1..=3 {
+        put_item(out, &[record, &vec![9; extra][..]].concat());
+    }
+}
+
+/// The count of each section at and beside what is allowed or fits.
+fn put_counts(out: &mut Vec<u8>, content: &Content) {
+    let (bytes, at) = (content.bytes(), content.settings_at());
+    let stops_at = at + 76 + 4 * content.cells.len();
+    let channels: (usize, &[u8]) = match Form::of(&content.codes) {
+        Form::Narrow => (0, &[0, 1, 33]),
+        Form::Wide => (1, &[0, 1, 65]),
+    };
+    let others: [(usize, &[u8]); 4] = [
+        (at, &[6, 8]),
+        (at + 15, &[28, 30]),
+        (at + 74, &[1, 3]),
+        (stops_at, &[1, 2, 4]),
+    ];
+    for (at, values) in std::iter::once(channels).chain(others) {
+        for value in values {
+            let mut record = bytes.clone();
+            record[at] = *value;
+            put_item(out, &record);
+            // The count alone, and the count with nothing after it, are judged first.
+            put_item(out, &record[..at + 1]);
+        }
+    }
+}
+
 /// Two faults in one record: the section that comes first decides, in it the
 /// count, then whether it is whole, then its entries.
-fn put_two_faults(out: &mut Vec<u8>) {
+fn put_two_faults(out: &mut Vec<u8>, content: &Content) {
     let faults: [fn(&mut Content); 5] = [
-        |c| c.codes[7] = 0,
+        |c| *c.codes.last_mut().expect("a code") = 0,
         |c| c.codes[2] = 99,
         |c| c.settings[1] = 1899,
         |c| c.saturation[0] = 499,
         |c| c.stop_causes[2] = 5,
     ];
     for (i, first) in faults.iter().enumerate() {
-        let bytes = changed(first).bytes();
+        let mut one = content.clone();
+        first(&mut one);
+        let bytes = one.bytes();
         put_item(out, &[&bytes[..], &[0]].concat());
         put_item(out, &bytes[..bytes.len() - 1]);
         for second in &faults[i + 1..] {
-            put_item(out, &both_changed(first, second).bytes());
+            let mut both = one.clone();
+            second(&mut both);
+            put_item(out, &both.bytes());
         }
     }
-    let mut rows = changed(|c| c.saturation[28] = 4301).bytes();
-    rows[83..85].copy_from_slice(&1501u16.to_le_bytes());
-    put_item(out, &rows);
-    rows[80..82].copy_from_slice(&4300u16.to_le_bytes());
-    put_item(out, &rows);
-}
-
-fn both_changed(first: impl Fn(&mut Content), second: impl Fn(&mut Content)) -> Content {
-    changed(|c| {
-        first(c);
-        second(c)
-    })
+    let mut last = content.clone();
+    last.saturation[28] = 4301;
+    let (mut bytes, at) = (last.bytes(), last.settings_at() + 74);
+    bytes[at..at + 2].copy_from_slice(&1501u16.to_le_bytes());
+    put_item(out, &bytes);
+    bytes[at - 2..at].copy_from_slice(&4300u16.to_le_bytes());
+    put_item(out, &bytes);
 }
 
 pub fn put_content(out: &mut Vec<u8>, length: usize, fill: u8, content: &Content) {
     out.extend((length as u32).to_le_bytes());
     out.push(fill);
-    out.extend((content.codes.len() as u16).to_le_bytes());
-    out.extend(&content.codes);
-    for section in [&content.settings, &content.saturation] {
+    for section in [&content.codes, &content.settings, &content.saturation] {
         out.extend((section.len() as u16).to_le_bytes());
         section
             .iter()
@@ -225,7 +235,11 @@ fn unwritable_contents() -> Vec<Content> {
         Content::default(),
         changed(|c| c.codes.clear()),
         changed(|c| c.codes = (1..=33).collect()),
-        changed(|c| c.codes = (0..300).map(|i| i as u8).collect()),
+        changed(|c| c.codes = (0..300).collect()),
+        changed(|c| c.codes = vec![0; 65]),
+        changed(|c| (c.codes[7], c.stop_causes) = (300, Vec::new())),
+        changed(|c| (c.codes[7], c.stop_rows) = (300, vec![1; 256])),
+        changed(|c| (c.codes[7], c.cells) = (300, vec![5; 17])),
         changed(|c| c.stop_rows = vec![1; 256]),
         changed(|c| (c.stop_rows, c.stop_causes) = (vec![1; 256], vec![1; 256])),
         changed(|c| (c.stop_rows, c.stop_causes) = (vec![1; 255], vec![1; 255])),
@@ -293,8 +307,20 @@ fn line_records() -> Vec<Vec<u8>> {
     ]
 }
 
-/// Each record into outputs of every length up to 3 above its line's, and long ones; then
-/// COUNT seeded records into outputs about as long as their lines.
+/// Wide records for the line: verdicts, an open one with channels whose codes only look like 7, and
+/// refused ones.
+fn wide_line_records() -> Vec<Vec<u8>> {
+    let more = [263, 519, 32775].into_iter();
+    let open = more.fold(listing(2), |c, code| with_channel(&c, 0, code, |_| MISSING));
+    let open = open.bytes();
+    let named = RECORDS.iter().skip(BEFORE_WIDE);
+    let mut records: Vec<Vec<u8>> = named.filter_map(|name| small_record(name)).collect();
+    records.extend([open[..15].to_vec(), open]);
+    records
+}
+
+/// Each record into outputs of every length up to 3 above its line's, and long ones, the wide ones
+/// only into those about as long as their lines; then COUNT seeded records into outputs so.
 pub fn make_line(seed: u64, count: usize) -> Vec<u8> {
     let mut dice = Dice(seed ^ 0x6C69_6E65);
     let mut out = Vec::new();
@@ -306,6 +332,12 @@ pub fn make_line(seed: u64, count: usize) -> Vec<u8> {
         }
         for length in [100, 1000, 60_000] {
             put_line_item(&mut out, length, 0xA5, &record);
+        }
+    }
+    for record in wide_line_records() {
+        let needed = rejudge_line(&record).len() + 1;
+        for length in [needed - 1, needed, needed + 1] {
+            put_line_item(&mut out, length, 0x5A, &record);
         }
     }
     for _ in 0..count {
@@ -325,20 +357,34 @@ pub fn make_line(seed: u64, count: usize) -> Vec<u8> {
 fn random_content(dice: &mut Dice) -> Content {
     let mut content = short_content(dice);
     for _ in 0..dice.pick(&[0, 0, 1, 1, 2, 3]) {
-        match dice.below(10) {
+        match dice.below(12) {
             0 => content.cells.push(dice.next() as u32),
             1 => {
                 content.settings.pop();
             }
             2 => content.saturation.push(4300),
             3 => content.stop_rows.push(0),
+            4 => raise_code(&mut content, dice),
+            5 => crowd(&mut content, dice),
             way if content.settings.len() == 7 && content.saturation.len() >= 29 => {
-                damage_entry(way as usize + 3, &mut content, dice)
+                damage_entry(way as usize + 1, &mut content, dice)
             }
             _ => {}
         }
     }
     content
+}
+
+/// More channels, up to and above what is allowed.
+fn crowd(content: &mut Content, dice: &mut Dice) {
+    let rows = content.cells.len() / content.codes.len();
+    let channels: usize = dice.pick(&[32, 33, 63, 64, 65, 66]);
+    let first = dice.pick(&[9, 100, 190, 250, 1000]);
+    let spare = (first..).filter(|code| !content.codes.contains(code));
+    let more = channels.saturating_sub(content.codes.len());
+    let spare: Vec<u16> = spare.take(more).collect();
+    content.codes.extend(spare);
+    content.cells.resize(rows * content.codes.len(), 5);
 }
 
 /// The items of `read`, `write` and `line`.

@@ -1,8 +1,10 @@
 //! Making input: records from tests, and damaged ones.
 
 use crate::bench::step_of;
+use crate::channels::Form;
 use crate::dice::{some_saturation, some_settings, spoil_setting, Dice};
 use crate::driver::{driven_test, unfit_bits};
+use crate::make_channels::{records_of_channels, REQUIRED};
 use crate::named_records::{small_record, RECORDS};
 use crate::numbers::OVER;
 use crate::record::Content;
@@ -22,30 +24,49 @@ fn shuffle<T>(list: &mut [T], dice: &mut Dice) {
     }
 }
 
-/// Codes for a record: the required ones, 3 and 8 or not, some above 8.
-fn some_codes(automatic: bool, dice: &mut Dice) -> Vec<u8> {
-    let mut codes = vec![1, 2, 4, 5, 6, 7];
+/// Codes for a record of at most so many rows: the required ones, 3 and 8 or not, some above 8. A
+/// fifth of them take the wide form, half of those by their number, half by codes above 255.
+fn some_codes(automatic: bool, rows: usize, dice: &mut Dice) -> Vec<u16> {
+    let mut codes = REQUIRED.to_vec();
     if !automatic || dice.percent(50) {
         codes.push(3);
     }
     if dice.percent(50) {
         codes.push(8);
     }
-    let extra = if dice.percent(5) {
-        dice.below(24)
-    } else {
-        dice.pick(&[0, 0, 1, 2])
+    let (kind, most) = (dice.below(10), 15_000 / rows.max(1));
+    let channels = match kind {
+        0 => dice.within(33, 64),
+        _ if dice.percent(5) => 6 + dice.below(24) as i64,
+        _ => 6 + dice.pick(&[0, 0, 1, 2]),
     };
-    while codes.len() < 6 + extra as usize {
-        let code = dice.within(9, 255) as u8;
-        if !codes.contains(&code) {
-            codes.push(code);
-        }
+    if kind == 1 {
+        (0..dice.within(1, 3)).for_each(|_| put_code(&mut codes, true, dice));
+    }
+    while codes.len() < most.min(channels as usize) {
+        let above = kind == 0 && dice.percent(30);
+        put_code(&mut codes, above, dice);
     }
     if dice.percent(60) {
         shuffle(&mut codes, dice);
     }
     codes
+}
+
+/// One code more, from 9 to 255 or above.
+fn put_code(codes: &mut Vec<u16>, above: bool, dice: &mut Dice) {
+    let raised = [257, 258, 259, 260, 261, 262, 263, 264];
+    loop {
+        let code = match above {
+            true if dice.percent(60) => dice.pick(&raised),
+            true if dice.percent(30) => dice.pick(&[256, 65535]),
+            true => dice.within(256, 65535) as u16,
+            false => dice.within(9, 255) as u16,
+        };
+        if !codes.contains(&code) {
+            return codes.push(code);
+        }
+    }
 }
 
 /// The greatest row count of a record with so many channels.
@@ -77,7 +98,7 @@ impl Site {
     }
 }
 
-pub fn content_of(site: &Site, codes: Vec<u8>, items: &[Item], dice: &mut Dice) -> Content {
+pub fn content_of(site: &Site, codes: Vec<u16>, items: &[Item], dice: &mut Dice) -> Content {
     let mut content = Content {
         codes,
         settings: site.settings.to_vec(),
@@ -111,6 +132,11 @@ fn put_row(content: &mut Content, bits: &[u32; 8], dice: &mut Dice) {
     }
 }
 
+fn seconds_in(items: &[Item]) -> usize {
+    let seconds = items.iter().filter(|item| matches!(item, Item::Second(_)));
+    seconds.count()
+}
+
 /// The items of a test up to its verdict.
 pub fn until_verdict(car: Vehicle, items: &[Item]) -> Vec<Item> {
     let mut test = Running::new(car);
@@ -128,7 +154,7 @@ pub fn until_verdict(car: Vehicle, items: &[Item]) -> Vec<Item> {
 /// A whole driven test as a record's content.
 fn driven_content(dice: &mut Dice) -> Content {
     let site = Site::some(dice);
-    let codes = some_codes(site.automatic(), dice);
+    let codes = some_codes(site.automatic(), 0, dice);
     let most = most_rows(codes.len());
     let most = if dice.percent(15) {
         dice.within(0, most as i64) as usize
@@ -145,31 +171,32 @@ pub fn scripted_content(index: usize, dice: &mut Dice) -> Content {
     let car = site.car();
     let items = scripted_test(car, index as u64, index % SCRIPTS).unwrap_or_default();
     let items = until_verdict(car, &items);
-    let codes = some_codes(site.automatic(), dice);
+    let codes = some_codes(site.automatic(), seconds_in(&items), dice);
     content_of(&site, codes, &items, dice)
 }
 
-pub const DAMAGES: usize = 20;
+/// The ways to damage a record that reading it shows.
+pub const READING_DAMAGES: usize = 16;
+
+/// Those and the ways that only judging shows.
+pub const DAMAGES: usize = 23;
 
 /// A record damaged in one of DAMAGES ways.
 pub fn damaged_record(way: usize, dice: &mut Dice) -> Vec<u8> {
-    let mut content = if way < 12 && dice.percent(80) {
+    let mut content = if way < 15 && dice.percent(80) {
         short_content(dice)
     } else {
         scripted_content(dice.below(SCRIPTS as u64) as usize, dice)
     };
     match way {
-        0..=6 => damage_bytes(way, content.bytes(), content.codes.len(), dice),
-        7..=12 => {
-            damage_entry(way, &mut content, dice);
-            content.bytes()
-        }
-        13..=15 => {
-            damage_cells(way, &mut content, dice);
-            content.bytes()
-        }
-        _ => after_verdict(way, dice).bytes(),
+        0..=6 => return damage_bytes(way, &content, dice),
+        7..=12 => damage_entry(way, &mut content, dice),
+        13 => raise_code(&mut content, dice),
+        14..=15 => return damage_form(way, content, dice),
+        16..=18 => damage_cells(way - 15, &mut content, dice),
+        _ => content = after_verdict(way, dice),
     }
+    content.bytes()
 }
 
 /// A small fit record: few rows, few stops.
@@ -181,13 +208,13 @@ pub fn short_content(dice: &mut Dice) -> Content {
     for cause in 1..=dice.below(4) as u8 {
         script.stop(cause);
     }
-    let codes = some_codes(site.automatic(), dice);
+    let codes = some_codes(site.automatic(), 0, dice);
     content_of(&site, codes, &script.items, dice)
 }
 
 /// Truncation, counts that are not allowed, bytes left, any byte changed.
-fn damage_bytes(way: usize, mut bytes: Vec<u8>, channels: usize, dice: &mut Dice) -> Vec<u8> {
-    let at = 1 + channels;
+fn damage_bytes(way: usize, content: &Content, dice: &mut Dice) -> Vec<u8> {
+    let (mut bytes, at) = (content.bytes(), content.settings_at());
     match way {
         0 => {
             let length = if dice.percent(50) {
@@ -197,11 +224,16 @@ fn damage_bytes(way: usize, mut bytes: Vec<u8>, channels: usize, dice: &mut Dice
             };
             bytes.truncate(dice.below(length as u64) as usize);
         }
+        1 if bytes[0] == 0 => {
+            let channels: u16 = dice.pick(&[0, 65, 256, 320, 65535]);
+            bytes[1..3].copy_from_slice(&channels.to_le_bytes());
+        }
         1 => bytes[0] = dice.pick(&[0, 33, 255]),
         2 => bytes[at] = dice.pick(&[0, 6, 8, 255]),
         3 => bytes[at + 15] = dice.pick(&[0, 28, 30, 255]),
         4 => {
-            let rows = dice.pick(&[1501, 65535, most_rows(channels) as u16 + 1]);
+            let most = most_rows(content.codes.len()) as u16;
+            let rows = dice.pick(&[1501, 65535, most + 1]);
             bytes[at + 74..at + 76].copy_from_slice(&rows.to_le_bytes());
         }
         5 => (0..dice.within(1, 5)).for_each(|i| bytes.push(i as u8)),
@@ -213,6 +245,33 @@ fn damage_bytes(way: usize, mut bytes: Vec<u8>, channels: usize, dice: &mut Dice
     bytes
 }
 
+/// The channels in the form that they do not take, or a wide record cut in its channels.
+fn damage_form(way: usize, content: Content, dice: &mut Dice) -> Vec<u8> {
+    if way == 14 {
+        return content.bytes_in(match Form::of(&content.codes) {
+            Form::Narrow => Form::Wide,
+            Form::Wide => Form::Narrow,
+        });
+    }
+    let end = Form::Wide.code_at(content.codes.len());
+    let mut bytes = content.bytes_in(Form::Wide);
+    bytes.truncate(dice.within(1, end as i64) as usize);
+    bytes
+}
+
+/// Puts one code 256 higher.
+pub fn raise_code(content: &mut Content, dice: &mut Dice) {
+    let column = dice.below(content.codes.len() as u64) as usize;
+    content.codes[column] = content.codes[column].wrapping_add(256);
+}
+
+/// A code that is none of these, half of the time above 255.
+fn spare_code(codes: &[u16], code: u16, dice: &mut Dice) -> u16 {
+    let first = if dice.percent(50) { 256 + code } else { 200 };
+    let mut spare = (first..).filter(|code| !codes.contains(code));
+    spare.next().unwrap_or(first)
+}
+
 /// A bad code, setting, saturation value or stop.
 pub fn damage_entry(way: usize, content: &mut Content, dice: &mut Dice) {
     let column = dice.below(content.codes.len() as u64) as usize;
@@ -220,11 +279,11 @@ pub fn damage_entry(way: usize, content: &mut Content, dice: &mut Dice) {
         7 => content.codes[column] = 0,
         8 => content.codes[column] = content.codes[(column + 1) % content.codes.len()],
         9 => {
-            let gone = dice.pick(&[1, 2, 4, 5, 6, 7]);
-            let other = (200..=255).find(|code| !content.codes.contains(code));
+            let gone = dice.pick(&REQUIRED);
+            let other = spare_code(&content.codes, gone, dice);
             for code in &mut content.codes {
                 if *code == gone {
-                    *code = other.unwrap_or(200);
+                    *code = other;
                 }
             }
         }
@@ -260,16 +319,14 @@ fn damage_stop(content: &mut Content, dice: &mut Dice) {
     }
 }
 
-/// Unfit cells, and engine speed absent with a manual gearbox.
+/// One or two unfit cells; at 3 engine speed absent with a manual gearbox.
 fn damage_cells(way: usize, content: &mut Content, dice: &mut Dice) {
     let channels = content.codes.len();
     let rows = content.cells.len() / channels;
-    if way == 15 || rows == 0 {
+    if way == 3 || rows == 0 {
         content.settings[3] = 1;
         if let Some(column) = content.codes.iter().position(|code| *code == 3) {
-            content.codes[column] = (200..=255)
-                .find(|c| !content.codes.contains(c))
-                .unwrap_or(200);
+            content.codes[column] = spare_code(&content.codes, 3, dice);
         }
         return;
     }
@@ -278,10 +335,11 @@ fn damage_cells(way: usize, content: &mut Content, dice: &mut Dice) {
     } else {
         dice.below(rows as u64) as usize
     };
-    for _ in 0..way - 12 {
+    for _ in 0..way {
         let column = dice.below(channels as u64) as usize;
         if content.codes[column] <= 8 {
-            let bits = unfit_bits(content.codes[column], content.settings[3] == 2, dice);
+            let code = content.codes[column] as u8;
+            let bits = unfit_bits(code, content.settings[3] == 2, dice);
             content.cells[row * channels + column] = bits;
         }
     }
@@ -306,30 +364,35 @@ fn after_verdict(way: usize, dice: &mut Dice) -> Content {
     let mut items = until_verdict(car, &script.items);
     let mut bits = encode(&script.good(), car.automatic, dice);
     match way {
-        16 => items.push(Item::Second(bits)),
-        17 => items.push(Item::Stop(dice.within(1, 4) as u8)),
-        18 => {
+        19 => items.push(Item::Second(bits)),
+        20 => items.push(Item::Stop(dice.within(1, 4) as u8)),
+        21 => {
             bits[0] = 0xFFC0_0000;
             items.push(Item::Second(bits));
         }
         _ => items.extend([Item::Second(bits), Item::Stop(1), Item::Second([OVER; 8])]),
     }
-    let codes = some_codes(car.automatic, dice);
+    let codes = some_codes(car.automatic, seconds_in(&items), dice);
     content_of(&site, codes, &items, dice)
 }
 
-/// How many records reach everything: the named ones and those about dips.
-pub const REACHING_RECORDS: usize = RECORDS.len() + PAST_DIPS - FIRST_DIP;
+/// How many records reach everything: the named ones, those about channels and those about dips.
+pub fn reaching_records() -> usize {
+    RECORDS.len() + records_of_channels().len() + PAST_DIPS - FIRST_DIP
+}
 
-/// The named records first, then the scripted tests, those about dips before the others.
+/// The named records first, those about channels, then the scripted tests, those about dips
+/// before the others.
 pub fn make_records(seed: u64, count: usize) -> Vec<u8> {
     let mut dice = Dice(seed ^ 0x7265_636F);
     let mut out = Vec::new();
+    let named = RECORDS.iter().filter_map(|name| small_record(name));
+    let first: Vec<Vec<u8>> = named.chain(records_of_channels()).collect();
     for i in 0..count {
         let record = match i {
-            _ if i < RECORDS.len() => small_record(RECORDS[i]).unwrap_or_default(),
-            _ if i < RECORDS.len() + SCRIPTS => {
-                scripted_content(FIRST_DIP + i - RECORDS.len(), &mut dice).bytes()
+            _ if i < first.len() => first[i].clone(),
+            _ if i < first.len() + SCRIPTS => {
+                scripted_content(FIRST_DIP + i - first.len(), &mut dice).bytes()
             }
             _ if i % 4 == 3 => damaged_record(i / 4 % DAMAGES, &mut dice),
             _ if i % 16 == 2 => scripted_content(dice.below(1000) as usize, &mut dice).bytes(),

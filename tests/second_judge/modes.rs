@@ -433,7 +433,7 @@ pub fn mode_record_vectors(data: &[u8], out: &mut impl FnMut(&str)) {
 pub fn write_item(items: &mut Items) -> Option<(usize, u8, Content)> {
     let (length, fill) = (items.u32()? as usize, items.u8()?);
     let count = items.u16()? as usize;
-    let codes = items.take(count)?.to_vec();
+    let codes = pairs(items.take(2 * count)?);
     let count = items.u16()? as usize;
     let settings = pairs(items.take(2 * count)?);
     let count = items.u16()? as usize;

@@ -1,7 +1,8 @@
 //! Making input: records by name.
 
+use crate::channels::Form;
 use crate::dice::Dice;
-use crate::make_record_vectors::sized_content;
+use crate::make_channels::{longest_narrow, longest_wide, with_channel};
 use crate::make_records::{content_of, Site};
 use crate::numbers::{MISSING, OVER};
 use crate::record::Content;
@@ -21,8 +22,9 @@ pub fn listing(rows: usize) -> Content {
     }
 }
 
-/// Small records by name: each ends in another way, or has its engine speed or its dip for another reason.
-pub const RECORDS: [&str; 43] = [
+/// Small records by name: each ends in another way, or has its engine speed, its dip or its channels
+/// for another reason.
+pub const RECORDS: [&str; 49] = [
     "pass_rising",
     "pass_out",
     "pass_ninety",
@@ -66,7 +68,16 @@ pub const RECORDS: [&str; 43] = [
     "dip_eleventh",
     "dip_forgotten",
     "slow_fall",
+    "wide_beside",
+    "wide_many",
+    "refused_1_zero",
+    "refused_3_wide",
+    "refused_8_wide",
+    "refused_19",
 ];
+
+/// How many of RECORDS come before those about the wide form.
+pub const BEFORE_WIDE: usize = 43;
 
 /// The records of the engine speed that have an automatic gearbox.
 const AUTOMATIC: [&str; 4] = [
@@ -78,6 +89,11 @@ const AUTOMATIC: [&str; 4] = [
 
 /// A record of RECORDS.
 pub fn small_record(name: &str) -> Option<Vec<u8>> {
+    Some(small_bytes(name, &small_content(name)?))
+}
+
+/// The content of a record of RECORDS, unfit where its name says so.
+pub fn small_content(name: &str) -> Option<Content> {
     let place = RECORDS.iter().position(|known| *known == name)?;
     let moped = name.contains("two") || name.ends_with("inconclusive");
     let engine = name.starts_with("engine_");
@@ -94,12 +110,7 @@ pub fn small_record(name: &str) -> Option<Vec<u8>> {
         },
         saturation: listing(0).saturation,
     };
-    let codes = match (moped, layout) {
-        (true, _) => vec![7, 1, 2, 4, 6, 5],
-        (_, 0) => vec![1, 2, 4, 5, 6, 7],
-        (_, 1) => vec![7, 6, 5, 4, 3, 2, 1],
-        _ => vec![9, 8, 1, 3, 2, 5, 4, 7, 6, 200],
-    };
+    let codes = small_codes(name, moped, layout);
     let mut script = Script::new(site.car(), place as u64);
     match name.strip_prefix("refused_") {
         Some(_) => small_refused(name, &mut script),
@@ -108,13 +119,45 @@ pub fn small_record(name: &str) -> Option<Vec<u8>> {
     }
     let mut content = content_of(&site, codes, &script.items, &mut Dice(place as u64));
     damage_small(name, &mut content);
-    let mut bytes = content.bytes();
+    Some(content)
+}
+
+fn small_codes(name: &str, moped: bool, layout: usize) -> Vec<u16> {
+    match name {
+        "wide_beside" => vec![3, 2, 263, 1, 7, 5, 6, 4],
+        "wide_many" => forty_codes(),
+        "refused_1_zero" | "refused_8_wide" => vec![9, 300, 7, 6, 5, 4, 3, 2, 1, 65535],
+        "refused_3_wide" => vec![1, 2, 3, 4, 5, 6, 263],
+        "refused_19" => vec![1, 2, 3, 4, 5, 6, 7],
+        _ if moped => vec![7, 1, 2, 4, 6, 5],
+        _ if layout == 0 => vec![1, 2, 4, 5, 6, 7],
+        _ if layout == 1 => vec![7, 6, 5, 4, 3, 2, 1],
+        _ => vec![9, 8, 1, 3, 2, 5, 4, 7, 6, 200],
+    }
+}
+
+/// Forty codes below 256, with 1 to 7 far from each other.
+pub fn forty_codes() -> Vec<u16> {
+    let mut codes: Vec<u16> = (20..60).collect();
+    for (i, column) in [33, 2, 17, 39, 9, 26, 5].into_iter().enumerate() {
+        codes[column] = i as u16 + 1;
+    }
+    codes
+}
+
+/// The bytes of a content under a name of RECORDS.
+pub fn small_bytes(name: &str, content: &Content) -> Vec<u8> {
+    let mut bytes = match name {
+        "refused_19" => content.bytes_in(Form::Wide),
+        _ => content.bytes(),
+    };
     match name {
         "refused_1" => bytes.truncate(60),
+        "refused_1_zero" => bytes.truncate(1),
         "refused_6_left" | "refused_7" => bytes.push(0),
         _ => {}
     }
-    Some(bytes)
+    bytes
 }
 
 /// The tests that are judged to their end or left open.
@@ -125,6 +168,7 @@ fn small_test(name: &str, s: &mut Script) {
         "pass_out" => { s.clean(3); s.far(2); s.settle(); s.clean(24); s.out(1) }
         "pass_ninety" => { s.settle(); s.falling(90, 9) }
         "pass_two" => { s.to_mode_2(); s.pass() }
+        "wide_beside" | "wide_many" => s.pass(),
         "fail_two" => { s.to_mode_2(); s.settle(); s.dirty(90) }
         "fail_inconclusive" => { s.to_mode_2(); s.void_and_rest(9); s.void(9) }
         "incomplete_stop" => { s.void_and_rest(7); s.void_and_rest(2); s.settle(); s.clean(12); s.stop(3) }
@@ -185,7 +229,7 @@ fn small_refused(name: &str, s: &mut Script) {
 /// What makes a record unfit, by its name.
 fn damage_small(name: &str, content: &mut Content) {
     let channels = content.codes.len();
-    let column = |code: u8| content.codes.iter().position(|c| *c == code);
+    let column = |code: u16| content.codes.iter().position(|c| *c == code);
     let (load, engine) = (column(2), column(3));
     match name {
         "refused_2" => content.saturation.truncate(28),
@@ -194,7 +238,7 @@ fn damage_small(name: &str, content: &mut Content) {
         "refused_5" => content.saturation[28] = content.saturation[27],
         "refused_6" => content.stop_rows[1] = 1,
         "refused_6_left" => content.stop_causes[1] = 5,
-        "refused_8" => content.cells[channels + load.unwrap_or(0)] = OVER,
+        "refused_8" | "refused_8_wide" => content.cells[channels + load.unwrap_or(0)] = OVER,
         "refused_8_absent" => {
             content.settings[3] = 1;
             engine.map(|column| content.codes[column] = 77);
@@ -207,9 +251,29 @@ fn damage_small(name: &str, content: &mut Content) {
     }
 }
 
+/// The named records that no script writes.
+fn listed_sample(name: &str) -> Option<Vec<u8>> {
+    Some(match name {
+        "listing" => listing(36).bytes(),
+        "empty" => listing(0).bytes(),
+        // Hotter than 30 °C, and so humid that another p gives another NO.
+        "hot" => {
+            let mut content = listing(36);
+            (content.settings[4], content.settings[5]) = (100, 31);
+            content.bytes()
+        }
+        // The listing with a channel of code 263 before that of code 7; its number is unfit for code 7.
+        "wide" => with_channel(&listing(36), 5, 263, |_| (-1.0f32).to_bits()).bytes(),
+        // The longest record in each form, and one byte more.
+        "too_long" => [longest_narrow().bytes(), vec![0]].concat(),
+        "too_long_wide" => [longest_wide().bytes(), vec![0]].concat(),
+        _ => return None,
+    })
+}
+
 /// A named record.
 pub fn sample(name: &str) -> Option<Vec<u8>> {
-    if let Some(record) = small_record(name) {
+    if let Some(record) = small_record(name).or_else(|| listed_sample(name)) {
         return Some(record);
     }
     let gearbox = if name == "engine_missing" { 2 } else { 1 };
@@ -219,16 +283,6 @@ pub fn sample(name: &str) -> Option<Vec<u8>> {
     };
     let mut script = Script::new(site.car(), 7);
     match name {
-        "listing" => return Some(listing(36).bytes()),
-        "empty" => return Some(listing(0).bytes()),
-        // Hotter than 30 °C, and so humid that another p gives another NO.
-        "hot" => {
-            let mut content = listing(36);
-            (content.settings[4], content.settings[5]) = (100, 31);
-            return Some(content.bytes());
-        }
-        // The longest record, and one byte more.
-        "too_long" => return Some([sized_content(30, 500, 255).bytes(), vec![0]].concat()),
         "pass" | "unfit" => script.pass(),
         // As "pass", but for second 6: the pass comes at t = 90.
         "dip" => {

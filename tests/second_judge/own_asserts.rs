@@ -1,6 +1,10 @@
 //! The judge's own asserts: document 01's worked cases and its plausible and wrong ones.
 
 use crate::asserts_bench::{after_tries, check_bench, check_locks, check_tries, last_answer, GOOD};
+use crate::asserts_channels::{
+    check_behind_wide, check_both_forms, check_channel_cases, check_wide_bytes, check_wide_reading,
+    check_wide_writer, check_widened,
+};
 use crate::asserts_coast_down::{
     check_run_ages, check_run_ends, check_run_items, check_run_locks, check_run_refusals,
 };
@@ -148,7 +152,7 @@ fn check_plausible(checks: &mut Checks) {
 }
 
 /// The record judged with its rows eight cells apart.
-fn by_eights(content: &Content) -> String {
+pub fn by_eights(content: &Content) -> String {
     let channels = content.codes.len();
     let mut wrong = content.clone();
     wrong.cells = content
@@ -181,49 +185,61 @@ fn check_least(checks: &mut Checks) {
     }
 }
 
+/// All the asserts, in their order.
+const CHECKS: [fn(&mut Checks); 45] = [
+    check_readings,
+    check_rounding,
+    check_corrections,
+    check_windows,
+    check_means,
+    check_settling,
+    check_measuring,
+    check_voids,
+    check_kept,
+    check_ended,
+    check_engines,
+    check_dips,
+    check_records,
+    check_writer,
+    check_round_trips,
+    check_line,
+    check_wide_bytes,
+    check_wide_reading,
+    check_behind_wide,
+    check_wide_writer,
+    check_both_forms,
+    check_widened,
+    check_channel_cases,
+    check_tries,
+    check_locks,
+    check_bench,
+    check_run_ends,
+    check_run_locks,
+    check_run_ages,
+    check_run_refusals,
+    check_run_items,
+    check_prepare_ends,
+    check_prepare_ages,
+    check_prepare_order,
+    check_prepare_use,
+    check_refused_starts,
+    check_prepare_refusals,
+    check_lock_8_last,
+    check_prepare_items,
+    check_plausible,
+    check_growing,
+    check_gathered,
+    check_samples,
+    check_named,
+    check_least,
+];
+
 pub fn selftest() -> bool {
     let mut checks = Checks {
         passed: 0,
         failed: 0,
     };
-    check_readings(&mut checks);
-    check_rounding(&mut checks);
-    check_corrections(&mut checks);
-    check_windows(&mut checks);
-    check_means(&mut checks);
-    check_settling(&mut checks);
-    check_measuring(&mut checks);
-    check_voids(&mut checks);
-    check_kept(&mut checks);
-    check_ended(&mut checks);
-    check_engines(&mut checks);
-    check_dips(&mut checks);
-    check_records(&mut checks);
-    check_writer(&mut checks);
-    check_round_trips(&mut checks);
-    check_line(&mut checks);
-    check_tries(&mut checks);
-    check_locks(&mut checks);
-    check_bench(&mut checks);
-    check_run_ends(&mut checks);
-    check_run_locks(&mut checks);
-    check_run_ages(&mut checks);
-    check_run_refusals(&mut checks);
-    check_run_items(&mut checks);
-    check_prepare_ends(&mut checks);
-    check_prepare_ages(&mut checks);
-    check_prepare_order(&mut checks);
-    check_prepare_use(&mut checks);
-    check_refused_starts(&mut checks);
-    check_prepare_refusals(&mut checks);
-    check_lock_8_last(&mut checks);
-    check_prepare_items(&mut checks);
-    check_plausible(&mut checks);
-    check_growing(&mut checks);
-    check_gathered(&mut checks);
-    check_samples(&mut checks);
-    check_named(&mut checks);
-    check_least(&mut checks);
+    CHECKS.iter().for_each(|check| check(&mut checks));
     println!("{} passed, {} failed", checks.passed, checks.failed);
     checks.failed == 0
 }

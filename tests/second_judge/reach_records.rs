@@ -2,8 +2,9 @@
 
 use crate::attempt::{Did, Stage};
 use crate::items::Items;
-use crate::numbers::Second;
+use crate::numbers::{Refusal, Second};
 use crate::reach::{names, texts, Reach};
+use crate::reach_channels::{read_names, Seen};
 use crate::reach_dips::{dips_in_records, Runs};
 use crate::reach_engines::{Engines, ON_THE_SHEET};
 use crate::record::{read_record, u16_at, Record};
@@ -54,10 +55,13 @@ fn open_without_window(steps: &[(Option<Second>, Step)]) -> Option<String> {
     }
 }
 
-/// The bytes after the last stop's entry, of a record whose counts are allowed.
+/// Bytes after the last stop's entry, in a record whose counts are allowed.
 fn bytes_left(bytes: &[u8]) -> bool {
-    let channels = bytes[0] as usize;
-    let rows_at = channels + 77;
+    let (channels, settings_at) = match bytes[0] {
+        0 => (u16_at(bytes, 1) as usize, 3 + 2 * u16_at(bytes, 1) as usize),
+        channels => (channels as usize, 1 + channels as usize),
+    };
+    let rows_at = settings_at + 76;
     let stops_at = rows_at + 4 * channels * u16_at(bytes, rows_at - 2) as usize;
     stops_at + 1 + 3 * (bytes[stops_at] as usize) < bytes.len()
 }
@@ -73,25 +77,72 @@ pub fn reach_records(data: &[u8]) -> Reach {
     required.extend(dips_in_records());
     required.extend(names("void ", 1..=9));
     required.extend(names("refused ", 1..=9));
+    required.extend(texts(&["refused 19"]));
+    required.extend(wide_endings());
+    required.extend(read_names());
     let mut reach = Reach::new(required);
     let mut items = Items { data };
     while let Some(record) = items.record() {
-        match rejudge(record) {
-            Err(refusal) => {
-                reach.count(format!("refused {}", refusal.number));
-                if refusal.number == 6 && bytes_left(record) {
-                    reach.count(LEFT_OVER);
-                }
-            }
+        let judged = rejudge(record);
+        let ending = match &judged {
+            Err(refusal) => format!("refused {}", refusal.number),
+            Ok(judged) => format!("{} {}", judged.word.map_or("open", Word::text), judged.mode),
+        };
+        if record.first() == Some(&0) {
+            reach.count(format!("wide, {ending}"));
+        }
+        reach.count(ending);
+        match judged {
+            Err(refusal) => reach_refused(&mut reach, record, refusal),
             Ok(judged) => reach_judged(&mut reach, record, &judged),
         }
+        let seen = Seen::read(record).names();
+        seen.into_iter().for_each(|name| reach.count(name));
     }
     reach
 }
 
+const WIDE_LEFT_OVER: &str = "wide, refused 6 with a byte left over";
+
+const WIDE_ABSENT: &str = "wide, refused 8 where a channel is absent";
+
+/// How records in the wide form end.
+fn wide_endings() -> Vec<String> {
+    let mut endings = texts(&[
+        "wide, open 1",
+        "wide, open 2",
+        "wide, pass 1",
+        "wide, pass 2",
+    ]);
+    endings.extend(texts(&[
+        "wide, fail 2",
+        "wide, incomplete 1",
+        "wide, incomplete 2",
+    ]));
+    endings.extend(names("wide, refused ", 1..=9));
+    endings.extend(texts(&["wide, refused 19", WIDE_LEFT_OVER, WIDE_ABSENT]));
+    endings
+}
+
+fn reach_refused(reach: &mut Reach, record: &[u8], refusal: Refusal) {
+    let wide = record.first() == Some(&0);
+    if refusal.number == 6 && bytes_left(record) {
+        reach.count(if wide { WIDE_LEFT_OVER } else { LEFT_OVER });
+    }
+    if wide && refusal.number == 8 && absent_at(record, refusal.place as usize) {
+        reach.count(WIDE_ABSENT);
+    }
+}
+
+/// A row's start at which none of codes 1 to 8 stands.
+fn absent_at(record: &[u8], place: usize) -> bool {
+    read_record(record).is_ok_and(|read| {
+        let starts = (place - read.rows_at) % (4 * read.codes.len()) == 0;
+        starts && read.codes[0] > 8
+    })
+}
+
 fn reach_judged(reach: &mut Reach, record: &[u8], judged: &Judged) {
-    let word = judged.word.map_or("open", Word::text);
-    reach.count(format!("{word} {}", judged.mode));
     let printed = judged.window.is_some();
     reach.count(if printed {
         "window printed"

@@ -11,6 +11,7 @@
 // Judging.
 mod attempt;
 mod bench;
+mod channels;
 mod coast_down;
 mod numbers;
 mod prepare;
@@ -31,6 +32,7 @@ mod driver;
 mod journal;
 mod journal_prepares;
 mod journal_runs;
+mod make_channels;
 mod make_corrections;
 mod make_events;
 mod make_prepares;
@@ -46,6 +48,7 @@ mod scripted_tests;
 
 // What an input reaches.
 mod reach;
+mod reach_channels;
 mod reach_dips;
 mod reach_engines;
 mod reach_events;
@@ -56,6 +59,7 @@ mod reach_tests;
 
 // Own asserts.
 mod asserts_bench;
+mod asserts_channels;
 mod asserts_coast_down;
 mod asserts_dips;
 mod asserts_engine;
