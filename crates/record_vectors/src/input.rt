@@ -28,7 +28,7 @@ fn run<T: Drop, R: Read, F: Fn(&mut R) -> io::Result<T>>(
 }
 
 // The next run of bytes, after its count of two bytes.
-fn codes(input: &mut impl Read, alloc: Global) -> io::Result<Vec<u8>> {
+fn bytes(input: &mut impl Read, alloc: Global) -> io::Result<Vec<u8>> {
     let n = usize::from(inputs::short(input)?).min(RUN);
     run(input, alloc, n, |i| inputs::byte(i))
 }
@@ -54,12 +54,12 @@ pub(crate) fn record(input: &mut impl Read, alloc: Global) -> io::Result<Vec<u8>
 // The six runs, one after the other.
 pub(crate) fn content(input: &mut impl Read, alloc: Global) -> io::Result<Owned> {
     Ok(Owned {
-        codes: codes(input, alloc)?,
+        codes: halves(input, alloc)?,
         settings: halves(input, alloc)?,
         saturation: halves(input, alloc)?,
         cells: cells(input, alloc)?,
         pasts: halves(input, alloc)?,
-        causes: codes(input, alloc)?,
+        causes: bytes(input, alloc)?,
     })
 }
 

@@ -1,6 +1,6 @@
 // The rejudge program: a record on standard input, one line on standard output.
-// The longest record that is read has 60,873 bytes, so that the first 60,874 of the input decide every answer.
-// Its buffers are the record's and the line's two, 61,258 bytes together; to print an error std has 1,024 more.
+// The longest record that is read has 60,965 bytes, so that the first 60,966 of the input decide every answer.
+// Its buffers are the record's and the line's two, 61,350 bytes together; to print an error std has 1,024 more.
 #![tactic(auto)]
 
 ghost use Rattle.std.specs.Io.{ReadsAtMost};
@@ -26,7 +26,7 @@ fn read_full(input: &mut impl Read, into: &mut [u8]) -> io::Result<usize>
 
 // A read or write that fails ends the program with an error.
 fn main(rt: HostRuntime) -> io::Result<()> {
-    let mut input = [0u8; 60_874];
+    let mut input = [0u8; 60_966];
     let n = read_full(&mut rt.stdin(), &mut input)?;
     let mut output = [0u8; 192];
     let written = rejudging::line(rejudging::rejudge(&input[..n]), &mut output);
