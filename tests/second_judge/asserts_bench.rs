@@ -1,13 +1,13 @@
 //! Own asserts: tries, locks, the bench.
 
 use crate::bench::{Bench, Event};
-use crate::journal::{ready_bench, WRONG};
 use crate::make_prepares::PREPARED;
 use crate::make_runs::PASSED_RUNS;
 use crate::modes::answer_line;
 use crate::numbers::{MISSING, OVER};
 use crate::own_asserts::{Checks, LISTED};
 use crate::script::good_bits;
+use crate::scripted_events::{ready_bench, WRONG};
 
 /// The answers of a fresh bench to a list of events.
 fn bench_lines(v: u32, u: u16, events: &[(u32, Event)]) -> Vec<String> {

@@ -4,11 +4,11 @@ use crate::asserts_bench::{last_answer, START};
 use crate::bench::Event;
 use crate::coast_down::Run;
 use crate::items::Items;
-use crate::journal::ready_bench;
 use crate::make_prepares::PREPARED;
 use crate::make_runs::{passing_ms, run, PASSED_RUNS};
 use crate::make_tests::put_event;
 use crate::own_asserts::Checks;
+use crate::scripted_events::ready_bench;
 
 const FASTER: Event = PASSED_RUNS[0];
 

@@ -3,12 +3,12 @@
 use crate::asserts_bench::{last_answer, passing_test, GOOD, START};
 use crate::bench::Event;
 use crate::items::Items;
-use crate::journal::{ready_bench, WRONG};
 use crate::make_prepares::{prepare, PREPARED};
 use crate::make_runs::PASSED_RUNS;
 use crate::make_tests::put_event;
 use crate::own_asserts::{Checks, LISTED};
 use crate::prepare::Prepare;
+use crate::scripted_events::{ready_bench, WRONG};
 
 const FAILED: Event = prepare([15, 0, 0], 0);
 

@@ -3,12 +3,13 @@
 use crate::bench::{calibration_lacks, run_lacks, since_power, Bench, Event};
 use crate::dice::{some_settings, Dice};
 use crate::driver::Driver;
-use crate::journal::scripted_events;
+use crate::make_journals::reaching_journals;
 use crate::make_prepares::{any_prepare, failed_prepare, standing_prepare, unfit_prepare};
 use crate::make_records::reaching_records;
 use crate::make_runs::{any_run, failed_run, passed_run};
 use crate::make_tests::{put_event, unfit_second, unfit_start};
 use crate::running::Running;
+use crate::scripted_events::scripted_events;
 use crate::scripted_tests::REACHING;
 use std::collections::VecDeque;
 
@@ -34,14 +35,15 @@ fn parameters(seed: u64, dice: &mut Dice) -> (u32, u16) {
     }
 }
 
-/// The least COUNT with which `make records`, `make tests` and `make events`
-/// reach everything.
-pub fn least() -> [(&'static str, usize); 3] {
+/// The least COUNT with which `make records`, `make tests`, `make events` and
+/// `make journals` reach everything.
+pub fn least() -> [(&'static str, usize); 4] {
     let events = scripted_events(1, MOST_SEEDED_U, &mut Dice(1)).len();
     [
         ("records", reaching_records()),
         ("tests", REACHING),
         ("events", events),
+        ("journals", reaching_journals()),
     ]
 }
 
@@ -53,13 +55,21 @@ enum When {
 }
 
 /// Plans events for a bench, looking at where it stands.
-struct Planner {
+pub struct Planner {
     dice: Dice,
     planned: VecDeque<(When, Event)>,
     driver: Option<Driver>,
 }
 
 impl Planner {
+    pub fn new(dice: Dice) -> Planner {
+        Planner {
+            dice,
+            planned: VecDeque::new(),
+            driver: None,
+        }
+    }
+
     pub fn next(&mut self, bench: &Bench) -> (u32, Event) {
         if bench.test.is_none() {
             self.driver = None;
@@ -378,11 +388,7 @@ pub fn make_events(seed: u64, count: usize) -> Vec<u8> {
         }
     };
     let mut scripted = scripted_events(v, u, &mut dice).into_iter();
-    let mut planner = Planner {
-        dice,
-        planned: VecDeque::new(),
-        driver: None,
-    };
+    let mut planner = Planner::new(dice);
     for _ in 0..count {
         let (clock, event) = match scripted.next() {
             Some(event) => event,

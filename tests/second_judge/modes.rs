@@ -26,6 +26,18 @@ pub fn answer_line(answer: &Answer) -> String {
     }
 }
 
+/// A line of each item, to the end of the input.
+pub fn each_item(
+    data: &[u8],
+    out: &mut impl FnMut(&str),
+    next: impl Fn(&mut Items) -> Option<String>,
+) {
+    let mut items = Items { data };
+    while let Some(line) = next(&mut items) {
+        out(&line);
+    }
+}
+
 pub fn mode_judge_many(data: &[u8], out: &mut impl FnMut(&str)) {
     let mut items = Items { data };
     while let Some(record) = items.record() {
@@ -337,7 +349,7 @@ pub fn mode_vectors(data: &[u8], out: &mut impl FnMut(&str)) {
     }
 }
 
-fn same_text(same: bool) -> &'static str {
+pub fn same_text(same: bool) -> &'static str {
     if same {
         "same"
     } else {
@@ -360,9 +372,22 @@ pub fn next_read_line(items: &mut Items) -> Option<String> {
 }
 
 pub fn mode_read(data: &[u8], out: &mut impl FnMut(&str)) {
-    let mut items = Items { data };
-    while let Some(line) = next_read_line(&mut items) {
-        out(&line);
+    each_item(data, out, next_read_line);
+}
+
+/// What writing answered, the hash of the output, and whether what was written comes back when it is read.
+pub fn written_line(
+    outcome: Result<usize, Refusal>,
+    buffer: &[u8],
+    comes_back: impl Fn(&[u8]) -> bool,
+) -> String {
+    let hash = fnv(buffer);
+    match outcome {
+        Ok(length) => {
+            let same = same_text(comes_back(&buffer[..length]));
+            format!("written {length} {hash} {same}")
+        }
+        Err(refusal) => format!("{refusal} {hash}"),
     }
 }
 
@@ -370,22 +395,14 @@ pub fn next_write_line(items: &mut Items) -> Option<String> {
     let (length, fill, content) = write_item(items)?;
     let mut buffer = vec![fill; length];
     let outcome = write_record(&content, &mut buffer);
-    let hash = fnv(&buffer);
-    Some(match outcome {
-        Ok(length) => {
-            let again = read_record(&buffer[..length]).map(|r| r.content());
-            let same = same_text(again.as_ref() == Ok(&content));
-            format!("written {length} {hash} {same}")
-        }
-        Err(refusal) => format!("{refusal} {hash}"),
-    })
+    Some(written_line(outcome, &buffer, |record| {
+        let again = read_record(record).map(|r| r.content());
+        again.as_ref() == Ok(&content)
+    }))
 }
 
 pub fn mode_write(data: &[u8], out: &mut impl FnMut(&str)) {
-    let mut items = Items { data };
-    while let Some(line) = next_write_line(&mut items) {
-        out(&line);
-    }
+    each_item(data, out, next_write_line);
 }
 
 /// Puts the rejudge line with its newline at the start of an output; a refusal leaves it as it was.
@@ -411,23 +428,17 @@ fn next_line_line(items: &mut Items) -> Option<String> {
 }
 
 pub fn mode_line(data: &[u8], out: &mut impl FnMut(&str)) {
-    let mut items = Items { data };
-    while let Some(line) = next_line_line(&mut items) {
-        out(&line);
-    }
+    each_item(data, out, next_line_line);
 }
 
 /// An item behind its topic byte: 1 as in `read`, 2 as in `write`, 3 as in `line`.
 pub fn mode_record_vectors(data: &[u8], out: &mut impl FnMut(&str)) {
-    let mut items = Items { data };
-    while let Some(line) = match items.u8() {
-        Some(1) => next_read_line(&mut items),
-        Some(2) => next_write_line(&mut items),
-        Some(3) => next_line_line(&mut items),
+    each_item(data, out, |items| match items.u8() {
+        Some(1) => next_read_line(items),
+        Some(2) => next_write_line(items),
+        Some(3) => next_line_line(items),
         _ => None,
-    } {
-        out(&line);
-    }
+    });
 }
 
 pub fn write_item(items: &mut Items) -> Option<(usize, u8, Content)> {

@@ -10,6 +10,10 @@ use crate::asserts_coast_down::{
 };
 use crate::asserts_dips::check_dips;
 use crate::asserts_engine::{check_engines, check_gathered, check_means};
+use crate::asserts_journals::{
+    check_journal_bytes, check_journal_items, check_journal_parameters, check_journal_reading,
+    check_journal_round_trips, check_journal_vectors, check_journal_writer, check_named_journals,
+};
 use crate::asserts_numbers::{check_corrections, check_readings, check_rounding, check_windows};
 use crate::asserts_prepare::{
     check_lock_8_last, check_prepare_ages, check_prepare_ends, check_prepare_items,
@@ -18,23 +22,29 @@ use crate::asserts_prepare::{
 use crate::asserts_record::{
     check_line, check_named, check_records, check_round_trips, check_samples, check_writer,
 };
+use crate::asserts_starts::check_start_lines;
 use crate::asserts_test::{
     check_ended, check_growing, check_kept, check_measuring, check_settling, check_voids, short,
 };
+use crate::asserts_whys::{
+    check_why_newest, check_why_none, check_why_of_locks, check_why_rows, check_why_tests,
+};
 use crate::bench::Event;
-use crate::journal::WRONG;
 use crate::make_events::{least, make_events};
+use crate::make_journals::make_journals;
 use crate::make_records::make_records;
 use crate::make_tests::make_tests;
 use crate::named_records::listing;
 use crate::numbers::unit_count;
 use crate::reach::Reach;
 use crate::reach_events::reach_events;
+use crate::reach_journals::reach_journals;
 use crate::reach_records::reach_records;
 use crate::reach_tests::reach_tests;
 use crate::record::Content;
 use crate::rejudging::rejudge_line;
 use crate::script::Script;
+use crate::scripted_events::WRONG;
 use crate::test::{after_void, Next, Standing, Word};
 use std::fmt;
 
@@ -173,7 +183,7 @@ fn wrong_after_void(standing: Standing, void: u8) -> Next {
 
 /// The least sizes reach everything, whatever the seed.
 fn check_least(checks: &mut Checks) {
-    let [(_, records), (_, tests), (_, events)] = least();
+    let [(_, records), (_, tests), (_, events), (_, journals)] = least();
     for seed in 1..=10 {
         let missing = |reach: Reach| reach.missing().join("; ");
         let made = make_records(seed, records);
@@ -182,11 +192,13 @@ fn check_least(checks: &mut Checks) {
         checks.same("tests", missing(reach_tests(&made)), String::new());
         let made = make_events(seed, events);
         checks.same("events", missing(reach_events(&made)), String::new());
+        let made = make_journals(seed, journals);
+        checks.same("journals", missing(reach_journals(&made)), String::new());
     }
 }
 
 /// All the asserts, in their order.
-const CHECKS: [fn(&mut Checks); 45] = [
+const CHECKS: [fn(&mut Checks); 59] = [
     check_readings,
     check_rounding,
     check_corrections,
@@ -226,6 +238,20 @@ const CHECKS: [fn(&mut Checks); 45] = [
     check_prepare_refusals,
     check_lock_8_last,
     check_prepare_items,
+    check_journal_bytes,
+    check_journal_reading,
+    check_journal_parameters,
+    check_journal_writer,
+    check_journal_items,
+    check_named_journals,
+    check_journal_round_trips,
+    check_journal_vectors,
+    check_start_lines,
+    check_why_none,
+    check_why_newest,
+    check_why_rows,
+    check_why_tests,
+    check_why_of_locks,
     check_plausible,
     check_growing,
     check_gathered,

@@ -13,6 +13,7 @@ mod attempt;
 mod bench;
 mod channels;
 mod coast_down;
+mod journaling;
 mod numbers;
 mod prepare;
 mod record;
@@ -20,42 +21,53 @@ mod rejudging;
 mod running;
 mod test;
 mod vehicle;
+mod why;
 mod window;
 
 // The modes and their input.
 mod items;
+mod journal_modes;
 mod modes;
 
 // Making input.
 mod dice;
 mod driver;
-mod journal;
-mod journal_prepares;
-mod journal_runs;
+mod journal_corners;
 mod make_channels;
 mod make_corrections;
 mod make_events;
+mod make_journal_vectors;
+mod make_journals;
 mod make_prepares;
 mod make_readings;
 mod make_record_vectors;
 mod make_records;
 mod make_runs;
 mod make_tests;
+mod named_journals;
 mod named_records;
 mod script;
 mod scripted_dips;
+mod scripted_events;
+mod scripted_journals;
+mod scripted_prepares;
+mod scripted_runs;
 mod scripted_tests;
 
 // What an input reaches.
+mod journal_walk;
 mod reach;
 mod reach_channels;
 mod reach_dips;
 mod reach_engines;
 mod reach_events;
+mod reach_journals;
 mod reach_prepares;
 mod reach_records;
 mod reach_runs;
+mod reach_starts;
 mod reach_tests;
+mod reach_whys;
 
 // Own asserts.
 mod asserts_bench;
@@ -63,14 +75,24 @@ mod asserts_channels;
 mod asserts_coast_down;
 mod asserts_dips;
 mod asserts_engine;
+mod asserts_journals;
 mod asserts_numbers;
 mod asserts_prepare;
 mod asserts_record;
+mod asserts_starts;
 mod asserts_test;
+mod asserts_whys;
 mod own_asserts;
 
+use crate::journal_modes::{
+    mode_against_journals, mode_journal, mode_journal_read, mode_journal_vectors,
+    mode_journal_write,
+};
+use crate::journaling::journal_lines;
 use crate::make_corrections::make_corrections;
 use crate::make_events::{least, make_events};
+use crate::make_journal_vectors::make_journal_vectors;
+use crate::make_journals::make_journals;
 use crate::make_readings::make_readings;
 use crate::make_record_vectors::{make_line, make_read, make_record_vectors, make_write};
 use crate::make_records::make_records;
@@ -79,12 +101,15 @@ use crate::modes::{
     mode_against, mode_corrections, mode_events, mode_judge_many, mode_line, mode_read,
     mode_readings, mode_record_vectors, mode_tests, mode_vectors, mode_write,
 };
+use crate::named_journals::{named_journal, JOURNALS};
 use crate::named_records::{sample, RECORDS};
 use crate::own_asserts::selftest;
 use crate::reach_events::reach_events;
+use crate::reach_journals::reach_journals;
 use crate::reach_records::reach_records;
 use crate::reach_tests::reach_tests;
 use crate::rejudging::rejudge_line;
+use crate::why::why_lines;
 use std::io::{self, Read, Write};
 
 /// A good end or a bad one, or what is wrong with the command or its input.
@@ -125,6 +150,8 @@ fn made(kind: &str, seed: &str, count: &str) -> Result<Vec<u8>, String> {
         "line" => make_line,
         "events" => make_events,
         "records" => make_records,
+        "journals" => make_journals,
+        "journal_vectors" => make_journal_vectors,
         _ => return Err(format!("There is no input of the kind {kind} to make.")),
     };
     let (seed, count) = (number("SEED", seed)?, number("COUNT", count)?);
@@ -148,11 +175,16 @@ fn line_mode(mode: &str, data: &[u8], out: &mut impl FnMut(&str)) {
         "read" => mode_read(data, out),
         "write" => mode_write(data, out),
         "line" => mode_line(data, out),
-        _ => mode_record_vectors(data, out),
+        "record_vectors" => mode_record_vectors(data, out),
+        "journal" => mode_journal(data, out),
+        "journal-why" => why_lines(data).iter().for_each(|line| out(line)),
+        "journal_read" => mode_journal_read(data, out),
+        "journal_write" => mode_journal_write(data, out),
+        _ => mode_journal_vectors(data, out),
     }
 }
 
-const LINE_MODES: [&str; 10] = [
+const LINE_MODES: [&str; 15] = [
     "judge",
     "events",
     "readings",
@@ -163,7 +195,25 @@ const LINE_MODES: [&str; 10] = [
     "write",
     "line",
     "record_vectors",
+    "journal",
+    "journal-why",
+    "journal_read",
+    "journal_write",
+    "journal_vectors",
 ];
+
+/// A program's output on each journal of a file, compared with that of a mode.
+fn against_journals(words: &[&str; 4], out: &mut impl FnMut(&str)) -> Ended {
+    let [mode, program, file, save] = words;
+    let lines_of = match *mode {
+        "journal" => journal_lines,
+        "journal-why" => why_lines,
+        _ => return Err(format!("No program is compared in a mode {mode}.")),
+    };
+    let data = file_bytes(file)?;
+    mode_against_journals(lines_of, program, &data, save, out)
+        .map_err(|error| format!("{program} cannot be run on the journals: {error}."))
+}
 
 fn run(words: &[&str], out: &mut impl FnMut(&str)) -> Ended {
     match words {
@@ -174,7 +224,11 @@ fn run(words: &[&str], out: &mut impl FnMut(&str)) -> Ended {
             return mode_against(program, &data, save, out)
                 .map_err(|error| format!("{program} cannot be run on the records: {error}."));
         }
+        ["against-journals", mode, program, file, save] => {
+            return against_journals(&[mode, program, file, save], out)
+        }
         ["reach", "judge-many", file] => return Ok(reach_records(&file_bytes(file)?).report(out)),
+        ["reach", "journals", file] => return Ok(reach_journals(&file_bytes(file)?).report(out)),
         ["reach", "events"] => return Ok(reach_events(&stdin_bytes()?).report(out)),
         ["reach", "tests"] => return Ok(reach_tests(&stdin_bytes()?).report(out)),
         ["selftest"] => return Ok(selftest()),
@@ -182,6 +236,12 @@ fn run(words: &[&str], out: &mut impl FnMut(&str)) -> Ended {
             .iter()
             .for_each(|(what, n)| out(&format!("{what} {n}"))),
         ["make", "record-names"] => RECORDS.iter().for_each(|name| out(name)),
+        ["make", "journal-names"] => JOURNALS.iter().for_each(|name| out(name)),
+        ["make", "journal", name] => {
+            let journal =
+                named_journal(name).ok_or(format!("There is no journal named {name}."))?;
+            put_bytes(&journal)?;
+        }
         ["make", "record", name] => {
             let record = sample(name).ok_or(format!("There is no record named {name}."))?;
             put_bytes(&record)?;

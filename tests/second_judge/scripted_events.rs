@@ -30,7 +30,7 @@ pub fn ready_bench(at: u32) -> Vec<(u32, Event)> {
 }
 
 /// Writes a list of events case by case.
-pub struct Journal {
+pub struct Story {
     pub v: u32,
     pub u: u16,
     pub now: u32,
@@ -38,7 +38,18 @@ pub struct Journal {
     pub dice: Dice,
 }
 
-impl Journal {
+impl Story {
+    /// Nothing has happened yet.
+    pub fn new(v: u32, u: u16, seed: u64) -> Story {
+        Story {
+            v,
+            u,
+            now: 0,
+            events: Vec::new(),
+            dice: Dice(seed),
+        }
+    }
+
     /// An event so many seconds after the last one.
     pub fn after(&mut self, wait: u32, event: Event) {
         self.now += wait;
@@ -428,29 +439,23 @@ impl Journal {
 
 /// Every case that a list of events is made for, each from a ready bench.
 pub fn scripted_events(v: u32, u: u16, dice: &mut Dice) -> Vec<(u32, Event)> {
-    let mut journal = Journal {
-        v,
-        u,
-        now: 0,
-        events: Vec::new(),
-        dice: Dice(dice.next()),
-    };
-    journal.first_events();
-    journal.idle_lock();
-    journal.calibration_lock();
-    journal.runs();
-    journal.sign_in_lock();
-    journal.password_lock();
-    journal.authority_lock();
-    journal.prepares();
-    journal.refused_in_a_test();
-    journal.unfit_starts();
-    journal.stops_and_clock();
-    journal.refused_second_and_lock_2();
-    journal.near_the_end();
-    journal.fail();
-    journal.unsent_lock();
-    journal.dip(9, 90);
-    journal.dip(8, 25);
-    journal.events
+    let mut story = Story::new(v, u, dice.next());
+    story.first_events();
+    story.idle_lock();
+    story.calibration_lock();
+    story.runs();
+    story.sign_in_lock();
+    story.password_lock();
+    story.authority_lock();
+    story.prepares();
+    story.refused_in_a_test();
+    story.unfit_starts();
+    story.stops_and_clock();
+    story.refused_second_and_lock_2();
+    story.near_the_end();
+    story.fail();
+    story.unsent_lock();
+    story.dip(9, 90);
+    story.dip(8, 25);
+    story.events
 }

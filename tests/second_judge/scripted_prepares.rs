@@ -1,9 +1,9 @@
 //! Making input: scripted prepares.
 
 use crate::bench::Event;
-use crate::journal::{Journal, SIGN_IN, WRONG};
 use crate::make_prepares::{failed_prepare, prepare, unfit_prepare, PREPARED};
 use crate::make_runs::PASSED_RUNS;
+use crate::scripted_events::{Story, SIGN_IN, WRONG};
 
 /// Just below what no longer stands.
 const BACKGROUND: [u16; 3] = [14, 1, 24];
@@ -32,7 +32,7 @@ const UNFIT: [[u16; 3]; 11] = [
     [65535, 65535, 65535],
 ];
 
-impl Journal {
+impl Story {
     pub fn prepares(&mut self) {
         self.prepare_ends();
         self.prepare_ages();

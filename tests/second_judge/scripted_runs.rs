@@ -1,15 +1,15 @@
 //! Making input: scripted coast-down runs.
 
 use crate::bench::Event;
-use crate::journal::{Journal, SIGN_IN, WRONG};
 use crate::make_prepares::PREPARED;
 use crate::make_runs::{failed_run, passed_run, passing_ms, run, PASSED_RUNS};
+use crate::scripted_events::{Story, SIGN_IN, WRONG};
 
 /// Inertia and power: the ends of their ranges, the worked case, and one where
 /// 93 and 107 percent are whole milliseconds.
 const ROLLERS: [(u16, u16); 4] = [(1050, 325), (1350, 50), (1200, 100), (1134, 50)];
 
-impl Journal {
+impl Story {
     pub fn runs(&mut self) {
         self.slower_first();
         self.failed_and_passed();
