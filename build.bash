@@ -22,6 +22,20 @@ build_judge() {
     rustc -O --edition 2021 -o "$1" tests/second_judge/second_judge.rs >&2 || give_up "The second judge does not build: rustc says why above; it needs a C linker, cc, on the path."
 }
 
+# readable FILE: it is standard input (-), or a file that can be read.
+readable() {
+    [ "$1" = - ] || { [ -r "$1" ] && [ ! -d "$1" ]; }
+}
+
+# copy_input FILE COPY: the first 64 KiB of an input, which decide all that a program says of it.
+copy_input() {
+    if [ "$1" = - ]; then
+        head -c 65536 >"$2"
+    else
+        head -c 65536 <"$1" >"$2"
+    fi 2>/dev/null
+}
+
 # programs: the crates with a main, as crates.txt lists them.
 programs() {
     local crate

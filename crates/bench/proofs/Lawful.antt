@@ -19,7 +19,8 @@ use Rattle.bench.specs.declared.Bench.{Bench}
 use Rattle.bench.specs.History.{fresh_history}
 use Rattle.bench.specs.Causes.{causes, first_cause}
 use Rattle.bench.specs.Running.{replayed_from, test_in}
-use Rattle.bench.specs.Stepping.{fresh_bench, parameters_fit, opened_of}
+use Rattle.locks.specs.Locks.{parameters_fit}
+use Rattle.bench.specs.Stepping.{fresh_bench, opened_of}
 use Rattle.bench.specs.Demand.{answer_after, history_of}
 use Rattle.bench.specs.Laws.{last_clock, Laws}
 use Rattle.bench.specs.Claims.{Opens}

@@ -3,7 +3,8 @@ use Rattle.std.specs.Prelude.{ℕ, ◌≤◌, true, false, ◌≡◌, List, Ok}
 use Rattle.loaded_test.specs.Laws.{Bounded as TestBounded}
 use Rattle.locks.specs.declared.Event.{Event}
 use Rattle.bench.specs.declared.Bench.{Bench}
-use Rattle.bench.specs.Stepping.{fresh_bench, parameters_fit, opened_of}
+use Rattle.locks.specs.Locks.{parameters_fit}
+use Rattle.bench.specs.Stepping.{fresh_bench, opened_of}
 use Rattle.bench.specs.Demand.{bench_after, Demand3}
 use Rattle.bench.specs.Laws.{Laws}
 

@@ -1,7 +1,7 @@
 -- The step of the bench, as the function `step` takes it, and a fresh bench.
 use Rattle.refusal.specs.declared.Refusal.TheVariants.{ClockEarlier, TestRunning, NoTest, StartLocked, CauseUnfit, InertiaUnfit, PowerUnfit, BackgroundUnfit}
 use Rattle.refusal.specs.Checking.{Check, fine, ◌⨾◌, need}
-use Rattle.std.specs.Prelude.{ℕ, Bool, not, ◌&&◌, ltb, leb, Some, None, Option, Ok, Err, Result}
+use Rattle.std.specs.Prelude.{ℕ, Bool, not, ◌&&◌, ltb, Some, None, Option, Ok, Err, Result}
 use Rattle.std.specs.Result.{result_and}
 use Rattle.refusal.specs.Choice.{pick}
 use Rattle.refusal.specs.declared.Refusal.{Refusal}
@@ -30,7 +30,7 @@ use Rattle.locks.specs.declared.Carried.{Carried}
 use Rattle.locks.specs.declared.Carried.TheVariants as carried
 use Rattle.locks.specs.declared.Contents.{Contents}
 use Rattle.locks.specs.Events.{contents_of, clock_of, clock_after}
-use Rattle.locks.specs.Locks.{lock_number}
+use Rattle.locks.specs.Locks.{lock_number, parameters_fit}
 use Rattle.locks.specs.State.{fresh_locks, locks_after, verdict_counted, first_lock}
 use Rattle.bench.specs.declared.Desk.{Desk}
 use Rattle.bench.specs.declared.Bench.{Bench}
@@ -151,10 +151,6 @@ fresh_bench validity limit = record {
   desk = record { validity = validity; limit = limit; clock = 0; locks = fresh_locks };
   test = none_running;
 }
-
--- "V (calibration validity, 1 to 2,592,000 s) and U (unsent limit, 1 to 255)"
-abbrev pub parameters_fit : ℕ → ℕ → Bool
-parameters_fit validity limit = leb 1 validity && leb validity 2592000 && (leb 1 limit && leb limit 255)
 
 -- "V or U unfit" is refused 15, and there is no bench: none on which a start could be admitted.
 unfoldable pub opened_of : ℕ → ℕ → Result Bench Refusal

@@ -66,7 +66,7 @@ pub fn open(validity: u32, limit: u16) -> Result<Bench, Refusal>
     ensures answer { result ≡ opened_of validity limit }
     ensures claims { Opens validity limit }
 {
-    if (1..=2_592_000).contains(&validity) && (1..=255).contains(&limit) {
+    if locks::parameters_fit(validity, limit) {
         return Ok(fresh_bench(validity, limit));
     }
     Err(Refusal::CauseUnfit)

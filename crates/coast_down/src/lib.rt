@@ -7,14 +7,14 @@ ghost use Rattle.coast_down.specs.Passing.{inertia_fit, power_fit, whole_nominal
 ghost use Rattle.coast_down.specs.Claims.{InertiaExactly, PowerExactly, RunClaims};
 
 // Which run: the faster, from 48 to 32 km/h, or the slower, from 33 to 17.
-#[derive(Clone, Copy)]
+#[derive(Clone, Copy, Debug, PartialEq, Eq)]
 pub enum SpeedRange {
     Faster,
     Slower,
 }
 
 // A run: inertia in 0.1 kg, the sum of set and friction power in 0.01 kW, and the measured time.
-#[derive(Clone, Copy)]
+#[derive(Clone, Copy, Debug, PartialEq, Eq)]
 pub struct Run {
     pub inertia: u16,
     pub power: u16,

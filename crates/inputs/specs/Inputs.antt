@@ -1,5 +1,5 @@
 -- What the programs that run vectors take from the bytes of their input; a byte past the input's end is 0.
-use Rattle.std.specs.Prelude.{ℕ, ◌+◌, ◌*◌, List, get_or, drop, Option, Some, IfSome, Result, IfOk, ◌≡◌}
+use Rattle.std.specs.Prelude.{ℕ, ◌+◌, ◌*◌, ◌≤◌, List, get_or, take, drop, Option, Some, IfSome, Result, IfOk, ◌≡◌}
 use Rattle.vehicle.specs.declared.Settings.{Settings}
 use Rattle.reading.specs.declared.Reading.{Reading}
 use Rattle.reading.specs.Kind.{reading_of, Readings}
@@ -50,3 +50,9 @@ readings_of xs =
 -- Where the input's bytes are known, an answer is `of` them, and the input has lost its first n bytes, or all where there are fewer.
 abbrev pub Takes : {A E : Type 0} → ℕ → (List ℕ → A) → Option (List ℕ) → Result A E → Option (List ℕ) → Type 0
 Takes n of old result new = IfOk result (λ v. IfSome old (λ xs. (v ≡ of xs) × (new ≡ Some (drop n xs))))
+
+-- A buffer of so much room is filled from its front: where the input's bytes are known, with all of them, or with as many as there is room for,
+-- and the others are left.
+abbrev pub Fills : {E : Type 0} → ℕ → Option (List ℕ) → Result ℕ E → List ℕ → Option (List ℕ) → Type 0
+Fills room old result into new =
+    IfOk result (λ n. (n ≤ room) × IfSome old (λ xs. (take n into ≡ take room xs) × (new ≡ Some (drop room xs))))

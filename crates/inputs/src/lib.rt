@@ -1,8 +1,9 @@
-// What the programs that run vectors read from their input: little-endian numbers, a start's settings, and a second's readings; zeros past
-// the input's end. Each contract says what is given, and what of the input is left, wherever the input's bytes are known. An error and the input
+// What the programs read from their input: a buffer full, and for those that run vectors little-endian numbers, a start's settings, and a second's
+// readings; zeros past the input's end. Each contract says what is given, and what of the input is left, wherever the input's bytes are known. An error and the input
 // after it are left free, since no clause of std says when a read fails; so is everything where the bytes are not known.
 #![tactic(auto)]
 
+ghost use Rattle.std.specs.Prelude.{length};
 ghost use Rattle.inputs.specs.Inputs.{
   byte_of,
   short_of,
@@ -11,6 +12,7 @@ ghost use Rattle.inputs.specs.Inputs.{
   reading_in,
   readings_of,
   Takes,
+  Fills,
 };
 
 use reading::{ByChannel, Readings};
@@ -100,4 +102,21 @@ pub fn readings<R: Read>(input: &mut R) -> io::Result<Readings>
         co2: reading(input)?,
         o2: reading(input)?,
     })
+}
+
+// Reads until the buffer is full or the input ends, and answers how many bytes it put at the start: memory is fixed, and std's readers to an
+// input's end take the heap.
+// Ruled out: bytes left in the input where there is room for them; a buffer that is filled twice from the start.
+pub fn fill<R: Read>(input: &mut R, into: &mut [u8]) -> io::Result<usize>
+    ensures { Fills (length into.old) (R.remaining input.old) result into.new (R.remaining input.new) }
+{
+    let mut done = 0;
+    while done < into.len() {
+        let n = input.read(&mut into[done..])?;
+        if n == 0 {
+            break;
+        }
+        done += n;
+    }
+    Ok(done)
 }

@@ -60,7 +60,7 @@ session_of l = record {
   signed = sign_in_of (latest_try l);
 }
 
-abbrev security_of : List Accepted → Security
+abbrev pub security_of : List Accepted → Security
 security_of l = record { wrong = min (wrong_row l) 4; password = password_lock l; authority = authority_lock l }
 
 -- What the bench keeps, as a function of the accepted events.
@@ -183,7 +183,7 @@ security_with e v row password authority true h = rw (wrong_counted (is_wrong e)
 security_with e v row password authority false h =
     rw (← four_counted (pick (row_end (accepted e v)) 0 (pick (is_wrong e) (suc row) row)), wrong_counted (is_wrong e), h)
 
-security_kept :
+pub security_kept :
     (e : Event) (v : Option Verdict) (l : List Accepted) → security_of (accepted e v ∷ l) ≡ security_after (security_of l) e
 unfolding wrong_row password_lock authority_lock
 security_kept e v l =

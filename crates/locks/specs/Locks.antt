@@ -22,6 +22,10 @@ use Rattle.locks.specs.declared.Lock.TheVariants.{NotWarm, Inactive, NotCalibrat
 use Rattle.locks.specs.Events.{kind_of, clock_of, calibration_in, try_in, run_at, prepare_in, Calibrating, Preparing}
 use Rattle.locks.specs.Accepted.{Accepted, is_kind, since, any, latest_of}
 
+-- "V (calibration validity, 1 to 2,592,000 s) and U (unsent limit, 1 to 255)"
+abbrev pub parameters_fit : ℕ → ℕ → Bool
+parameters_fit validity limit = leb 1 validity && leb validity 2592000 && (leb 1 limit && leb limit 255)
+
 -- "Power-on and clock setting void warm-up, calibration and sign-in (as none)".
 abbrev pub voids : Kind → Bool
 voids kind.PowerOn = true

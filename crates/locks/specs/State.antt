@@ -133,6 +133,10 @@ abbrev pub unprepared : ℕ → Option ℕ → Bool
 unprepared now None = true
 unprepared now (Some clock) = ltb (clock + 120) now
 
+-- Lock 5.
+abbrev pub password_stands : Locks → Bool
+password_stands k = k.security.password
+
 -- Which of the eight stand for a start at this clock: 1 where no warm-up is finished, 7 where the verdicts since the last upload = U.
 abbrev pub standing_of : ℕ → ℕ → Locks → ℕ → Lock → Bool
 standing_of validity limit k now lock.NotWarm = not k.session.warm

@@ -7,8 +7,8 @@
 ghost use Rattle.std.specs.Prelude.{◌≡◌};
 ghost use Rattle.locks.specs.Events.{kind_number};
 ghost use Rattle.locks.specs.Claims.{LockClaims, FirstClaims};
-ghost use Rattle.locks.specs.Locks.{lock_number};
-ghost use Rattle.locks.specs.State.{fresh_locks, locks_after, verdict_counted, first_lock};
+ghost use Rattle.locks.specs.Locks.{lock_number, parameters_fit};
+ghost use Rattle.locks.specs.State.{fresh_locks, locks_after, verdict_counted, password_stands, first_lock};
 
 mod events;
 mod preparing;
@@ -27,14 +27,14 @@ use reading::Readings;
 use vehicle::Settings;
 
 // What a calibration came to.
-#[derive(Clone, Copy)]
+#[derive(Clone, Copy, Debug, PartialEq, Eq)]
 pub enum Calibration {
     Passed,
     Failed,
 }
 
 // What a try at the password came to: two cases of its own, as document 01 has it, since none would not say that it was wrong.
-#[derive(Clone, Copy)]
+#[derive(Clone, Copy, Debug, PartialEq, Eq)]
 pub enum Try {
     Good { expiry: u32 },
     Wrong,
@@ -174,7 +174,7 @@ impl Lock {
 }
 
 // "A start is locked by the first standing one": the order in which they are asked.
-const IN_ORDER: [Lock; 8] = [
+pub const IN_ORDER: [Lock; 8] = [
     Lock::NotWarm,
     Lock::Inactive,
     Lock::NotCalibrated,
@@ -219,6 +219,14 @@ pub struct Locks {
     prepared: Option<u32>,
 }
 
+// Whether V, in seconds, and U are fit: a bench and a journal are refused 15 by the same test.
+// Ruled out: U = 256 taken, and V = 2,592,000 refused.
+pub fn parameters_fit(validity: u32, limit: u16) -> bool
+    ensures { result ≡ parameters_fit validity limit }
+{
+    (1..=2_592_000).contains(&validity) && (1..=255).contains(&limit)
+}
+
 // The locks of a fresh bench.
 // Ruled out: a warm-up that nobody finished, and a password lock from the start.
 pub fn fresh_locks() -> Locks
@@ -257,6 +265,14 @@ pub fn verdict_counted(k: Locks) -> Locks
         unsent: k.unsent.saturating_add(1),
         ..k
     }
+}
+
+// Whether lock 5 stands, which no clock decides.
+// Ruled out: false after four wrong tries and a good one; true after an unlock.
+pub fn password_stands(k: Locks) -> bool
+    ensures { result ≡ password_stands k }
+{
+    k.security.password
 }
 
 // The first lock that stands for a start at this clock with V and U, if one does; with it comes when each stands, in plain words.

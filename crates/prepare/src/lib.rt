@@ -10,11 +10,11 @@ use reading::Channel;
 
 // The HC residue in 10^-6, background less ambient air: the 16 bits of a signed number in two's complement. Bits, and not an `i16`, since
 // document 02 gives two bytes, and a test of the bits needs no signed arithmetic.
-#[derive(Clone, Copy)]
+#[derive(Clone, Copy, Debug, PartialEq, Eq)]
 pub struct Residue(pub u16);
 
 // The background in units, HC 10^-6, CO 0.01 %, NO 10^-6, and the HC residue.
-#[derive(Clone, Copy)]
+#[derive(Clone, Copy, Debug, PartialEq, Eq)]
 pub struct ZeroCheck {
     pub hc: u16,
     pub co: u16,

@@ -1,5 +1,5 @@
 // Topic 3: the rejudge line of a record, put at the start of an output.
-use crate::{input, output};
+use crate::input;
 use std::alloc::Global;
 use std::io;
 use std::io::{Read, Write};
@@ -12,6 +12,6 @@ pub(crate) fn item(
     let mut out = input::output(input, alloc)?;
     let record = input::record(input, alloc)?;
     let answer = rejudging::line(rejudging::rejudge(&record), &mut out);
-    output::written(output, answer, &out)?;
+    outputs::written(output, answer, &out)?;
     writeln!(output)
 }

@@ -12,7 +12,6 @@
 mod content;
 mod input;
 mod lines;
-mod output;
 mod reads;
 mod writes;
 

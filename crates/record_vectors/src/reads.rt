@@ -1,5 +1,4 @@
 // Topic 1: a record is read; if it is fit, its content is taken out, written again and compared with the record.
-use crate::output::same;
 use crate::{content, input};
 use record::Record;
 use std::alloc::{AllocError, Global};
@@ -26,7 +25,7 @@ pub(crate) fn item(
                 bytes: &bytes,
                 shape,
             };
-            let back = same(comes_back(r, alloc)?);
+            let back = outputs::same(comes_back(r, alloc)?);
             writeln!(
                 output,
                 "fit {} {} {} {back}",

@@ -1,7 +1,6 @@
 // Topic 2: a content is written; if it is written, it is read again and compared with the content given.
 use crate::content::Owned;
-use crate::output::same;
-use crate::{content, input, output};
+use crate::{content, input};
 use record::Record;
 use std::alloc::{AllocError, Global};
 use std::io;
@@ -23,10 +22,14 @@ pub(crate) fn item(
     let mut out = input::output(input, alloc)?;
     let given = input::content(input, alloc)?;
     let answer = record::write_record(&mut out, &given.content());
-    output::written(output, answer, &out)?;
+    outputs::written(output, answer, &out)?;
     if let Ok(n) = answer {
         if let Some(written) = out.get(..n) {
-            write!(output, " {}", same(has_content(written, &given, alloc)?))?;
+            write!(
+                output,
+                " {}",
+                outputs::same(has_content(written, &given, alloc)?)
+            )?;
         }
     }
     writeln!(output)

@@ -1,7 +1,8 @@
 -- Document 01's refusal table with the rows that document 02 adds: the cause's number, and what is returned as the place.
-use Rattle.std.specs.Prelude.{ℕ}
+use Rattle.std.specs.Prelude.{ℕ, List, ◌++◌, codes}
+use Rattle.std.specs.Fmt.{decimal}
 use Rattle.refusal.specs.declared.Refusal.{Refusal}
-use Rattle.refusal.specs.declared.Refusal.TheVariants.{EndsEarly, CountNotAllowed, CodeUnfit, SettingUnfit, SaturationUnfit, StopUnfit, BytesLeft, ReadingUnfit, AfterVerdict, OutputShort, ClockEarlier, TestRunning, NoTest, StartLocked, CauseUnfit, InertiaUnfit, PowerUnfit, BackgroundUnfit, WideNotNeeded}
+use Rattle.refusal.specs.declared.Refusal.TheVariants.{EndsEarly, CountNotAllowed, CodeUnfit, SettingUnfit, SaturationUnfit, StopUnfit, BytesLeft, ReadingUnfit, AfterVerdict, OutputShort, ClockEarlier, TestRunning, NoTest, StartLocked, CauseUnfit, InertiaUnfit, PowerUnfit, BackgroundUnfit, WideNotNeeded, EventUnfit}
 
 -- A row's number.
 abbrev pub number_of : Refusal → ℕ
@@ -24,6 +25,7 @@ number_of InertiaUnfit = 16
 number_of PowerUnfit = 17
 number_of (BackgroundUnfit code) = 18
 number_of (WideNotNeeded offset) = 19
+number_of (EventUnfit offset) = 20
 
 -- "place returned"; 0 where the row has none.
 abbrev pub place_of : Refusal → ℕ
@@ -65,3 +67,9 @@ place_of PowerUnfit = 0
 place_of (BackgroundUnfit code) = code
 -- wide form of the channels not needed: the count's offset (document 02, A.6)
 place_of (WideNotNeeded offset) = offset
+-- unknown kind of event in a journal, or a yes-or-no byte above 1: its offset (document 02, A.7)
+place_of (EventUnfit offset) = offset
+
+-- "refused, number, place", with single spaces between.
+abbrev pub refusal_text : Refusal → List ℕ
+refusal_text r = codes "refused " ++ (decimal (number_of r) ++ (codes " " ++ decimal (place_of r)))

@@ -2,8 +2,8 @@
 // specs/Table.antt has the number and the place of each. A check that may refuse answers a `Check`; one check after another is `?`.
 #![tactic(auto)]
 
-ghost use Rattle.std.specs.Prelude.{◌≡◌};
-ghost use Rattle.refusal.specs.Table.{number_of, place_of};
+ghost use Rattle.std.specs.Prelude.{◌≡◌, Some};
+ghost use Rattle.refusal.specs.Table.{number_of, place_of, refusal_text};
 
 use std::fmt;
 
@@ -47,6 +47,8 @@ pub enum Refusal {
     BackgroundUnfit(u8),
     // wide form of the channels not needed: the count's offset
     WideNotNeeded(usize),
+    // unknown kind of event in a journal, or a yes-or-no byte above 1: its offset
+    EventUnfit(usize),
 }
 
 // What one check tells.
@@ -77,6 +79,7 @@ impl Refusal {
             Refusal::PowerUnfit => 17,
             Refusal::BackgroundUnfit(_) => 18,
             Refusal::WideNotNeeded(_) => 19,
+            Refusal::EventUnfit(_) => 20,
         }
     }
 
@@ -95,7 +98,8 @@ impl Refusal {
             | Refusal::ReadingUnfit(place)
             | Refusal::AfterVerdict(place)
             | Refusal::OutputShort(place)
-            | Refusal::WideNotNeeded(place) => place,
+            | Refusal::WideNotNeeded(place)
+            | Refusal::EventUnfit(place) => place,
             Refusal::ClockEarlier(clock) => clock as usize,
             Refusal::StartLocked(lock) => lock as usize,
             Refusal::BackgroundUnfit(code) => code as usize,
@@ -108,8 +112,10 @@ impl Refusal {
     }
 }
 
-// As the programs print it; no clause of `Display` states a text.
+// As the programs print it.
 impl fmt::Display for Refusal {
+    ghost output = { λ r. Some (refusal_text r) };
+
     fn fmt<W: fmt::Write>(&self, f: &mut fmt::Formatter<W>) -> fmt::Result {
         write!(f, "refused {} {}", self.number(), self.place())
     }

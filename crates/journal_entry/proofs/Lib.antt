@@ -1,0 +1,4 @@
+pub mod Taken
+pub mod FieldLaws
+pub mod EntryLaws
+pub mod Enough

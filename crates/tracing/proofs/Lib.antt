@@ -1,0 +1,4 @@
+pub mod Followed
+pub mod Named
+pub mod Always
+pub mod Claimed
