@@ -119,7 +119,7 @@ pub fn check_bench(checks: &mut Checks) {
     checks.same(
         "pass",
         last_answer(900, 1, &first),
-        "ok pass 25 16 0".to_string(),
+        "ok pass 25 16 0 0".to_string(),
     );
     let after = |events: &[(u32, Event)]| last_answer(9000, 1, &[&first[..], events].concat());
     checks.same(

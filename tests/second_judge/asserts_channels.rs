@@ -85,12 +85,12 @@ pub fn check_wide_reading(checks: &mut Checks) {
     same("one code", &[0, 1, 0, 1, 0], "refused 3 1");
     same("one code above 255", &[0, 1, 0, 44, 1], "refused 3 1");
     same("code 0 by both bytes", &wide(&[1, 2, 4, 5, 6, 7, 256, 0]), "refused 3 17");
-    same("code 256", &wide(&[1, 2, 4, 5, 6, 7, 256]), "open 1 0 0 0 - - - -");
+    same("code 256", &wide(&[1, 2, 4, 5, 6, 7, 256]), "open 1 0 0 0 0 - - - -");
     same("code twice", &wide(&[1, 2, 300, 4, 5, 6, 7, 9, 300]), "refused 3 19");
     same("code thrice", &wide(&[300, 2, 300, 4, 300, 5, 6, 7, 1]), "refused 3 7");
-    same("low byte twice", &wide(&[1, 2, 4, 5, 6, 7, 9, 265, 521]), "open 1 0 0 0 - - - -");
+    same("low byte twice", &wide(&[1, 2, 4, 5, 6, 7, 9, 265, 521]), "open 1 0 0 0 0 - - - -");
     same("263 is not 7", &wide(&[1, 2, 4, 5, 6, 263]), "refused 3 1");
-    same("263 beside 7", &wide(&[1, 2, 4, 5, 6, 263, 7]), "open 1 0 0 0 - - - -");
+    same("263 beside 7", &wide(&[1, 2, 4, 5, 6, 263, 7]), "open 1 0 0 0 0 - - - -");
     same("not needed", &wide(&[1, 2, 4, 5, 6, 7]), "refused 19 1");
     same("not needed, code 255", &wide(&[1, 2, 4, 5, 6, 7, 255]), "refused 19 1");
     same("not needed, cut", &wide(&[1, 2, 4, 5, 6, 7])[..15], "refused 19 1");
@@ -99,9 +99,9 @@ pub fn check_wide_reading(checks: &mut Checks) {
     same("not needed, code twice", &wide(&[1, 2, 4, 5, 6, 7, 7]), "refused 3 15");
     same("needed, cut", &wide(&[1, 2, 4, 5, 6, 7, 263])[..17], "refused 1 17");
     same("32, none above 255", &wide(&required_up_to(32, 100)), "refused 19 1");
-    same("33, none above 255", &wide(&required_up_to(33, 100)), "open 1 0 0 0 - - - -");
+    same("33, none above 255", &wide(&required_up_to(33, 100)), "open 1 0 0 0 0 - - - -");
     same("33 narrow", &filled(required_up_to(33, 100), 0, 0).bytes_in(Form::Narrow), "refused 2 0");
-    same("64", &wide(&required_up_to(64, 100)), "open 1 0 0 0 - - - -");
+    same("64", &wide(&required_up_to(64, 100)), "open 1 0 0 0 0 - - - -");
     same("65", &wide(&required_up_to(65, 100)), "refused 2 1");
     same("65 and a code 0", &wide(&[0; 65]), "refused 2 1");
 }
@@ -112,7 +112,7 @@ pub fn check_behind_wide(checks: &mut Checks) {
     let mut same = |name: &str, bytes: &[u8], want: &str| {
         checks.same(name, rejudge_line(bytes), want.to_string());
     };
-    let line = "pass 1 25 16 0 121 121 217 -";
+    let line = "pass 1 25 16 0 0 121 121 217 -";
     for column in 0..=6 {
         same("wide listing", &wide_listing(column).bytes(), line);
     }
@@ -139,7 +139,7 @@ pub fn check_behind_wide(checks: &mut Checks) {
     same("wide, bytes left", &[&changed(|_| {})[..], &[0]].concat(), "refused 7 1102");
     same("wide, one short", &changed(|_| {})[..1101], "refused 1 1101");
     same("64 channels, 234 rows, one short", &sized_content(64, 234, 0).bytes()[..60_111], "refused 1 60111");
-    same("40 channels", &small_record("wide_many").unwrap_or_default(), "pass 1 25 16 0 121 121 25 4000");
+    same("40 channels", &small_record("wide_many").unwrap_or_default(), "pass 1 25 16 0 0 121 121 25 4000");
 }
 
 /// What a writer answers, with the places of the form that the codes take.

@@ -22,11 +22,11 @@ fn stands(mode: u8, write: impl Fn(&mut Script)) -> String {
 
 /// A run of clean windows that ends, or goes on, at t.
 fn pass(mode: u8, t: usize) -> String {
-    format!("measured ends-pass {mode} {t} {} 0 0 0", t - 9)
+    format!("measured ends-pass {mode} {t} {} 0 0 0 0", t - 9)
 }
 
 fn goes_on(mode: u8, t: usize) -> String {
-    format!("measured goes-on {mode} {t} {} 0 0 0", t - 9)
+    format!("measured goes-on {mode} {t} {} 0 0 0 0", t - 9)
 }
 
 pub fn check_dips(checks: &mut Checks) {
@@ -120,7 +120,7 @@ fn check_restarts(checks: &mut Checks, mode: u8) {
     same("above the old second 1", |s| { s.speeds(12, |_| -15); s.out(3); s.dip(6, 9, 25) }, goes_on(mode, 25));
     // A new attempt has its own seconds too.
     same("dip, rest", |s| { s.dip(6, 9, 25); s.stop(1); s.rest(); s.pass() },
-        pass(mode, 25).replace(" 0 0 0", " 0 1 0"));
+        pass(mode, 25).replace(" 0 0 0 0", " 0 0 1 0"));
 }
 
 /// A second of the ten that is out counts in the drop, though in no window.
@@ -129,13 +129,13 @@ fn check_out_dips(checks: &mut Checks, mode: u8) {
         let line = stands(mode, |s| s.speeds(count, |i| if i == 6 { off } else { 0 }));
         checks.same(name, line, want.replace('M', &mode.to_string()));
     };
-    same("out above", 30, 16, "measured ends-pass M 30 15 0 0 0");
-    same("out below", 30, -16, "measured goes-on M 30 15 0 0 0");
+    same("out above", 30, 16, "measured ends-pass M 30 15 0 6 0 0");
+    same("out below", 30, -16, "measured goes-on M 30 15 0 6 0 0");
     same(
         "out below, t = 90",
         90,
         -16,
-        "measured ends-pass M 90 75 0 0 0",
+        "measured ends-pass M 90 75 0 6 0 0",
     );
 }
 

@@ -149,7 +149,7 @@ fn check_engine_lines(checks: &mut Checks) {
             .collect();
         content.bytes()
     };
-    let line = |engine: &str| format!("pass 1 25 16 0 121 121 217 {engine}");
+    let line = |engine: &str| format!("pass 1 25 16 0 0 121 121 217 {engine}");
     let steady = with_engine(|_| bits_of(3, 4000, 0));
     same("listing with code 3", &steady, &line("4000"));
     let zeros = with_engine(|_| 0);

@@ -129,7 +129,7 @@ pub fn check_prepare_use(checks: &mut Checks) {
         checks.same(name, &after_ready(events)[..], want);
     };
     let after = |then: &[(u32, Event)]| [&tested[..], then].concat();
-    same("the test", &tested, "ok pass 25 16 0");
+    same("the test", &tested, "ok pass 25 16 0 0");
     same("used up", &after(&[(136, START)]), "refused 14 8");
     same("used up, failed", &after(&[(136, FAILED), (136, START)]), "refused 14 8");
     same("prepared again", &after(&[(136, PREPARED), (136, START)]), "ok");
@@ -140,7 +140,7 @@ pub fn check_prepare_use(checks: &mut Checks) {
     same("prepared after it", &[&on[..], &renewed, &[(101, PREPARED), (101, START)]].concat(), "ok");
     let in_test = [(100, PREPARED), (100, START), (100, START), (100, PREPARED)];
     let tested = [&in_test, &passing_test(100)[1..]].concat();
-    same("the test goes on", &tested, "ok pass 25 16 0");
+    same("the test goes on", &tested, "ok pass 25 16 0 0");
     same("both refused 12", &[&tested[..], &[(136, START)]].concat(), "refused 14 8");
     let again = [(136, PREPARED), (136, START)];
     same("prepared after them", &[&tested[..], &again].concat(), "ok");

@@ -14,18 +14,18 @@ use crate::rejudging::rejudge_line;
 /// The line put at the start of an output.
 pub fn check_line(checks: &mut Checks) {
     let record = listing(0).bytes();
-    let line = b"open 1 0 0 0 - - - -\n";
-    let mut out = [7; 23];
+    let line = b"open 1 0 0 0 0 - - - -\n";
+    let mut out = [7; 25];
     checks.same("line", put_line(&record, &mut out), Ok(line.len()));
-    checks.same("line's bytes", &out[..21], &line[..]);
-    checks.same("beyond the line", &out[21..], &[7, 7]);
-    let mut out = [7; 20];
+    checks.same("line's bytes", &out[..23], &line[..]);
+    checks.same("beyond the line", &out[23..], &[7, 7]);
+    let mut out = [7; 22];
     checks.same(
         "line too short",
         put_line(&record, &mut out),
-        Err(refusal(10, 21)),
+        Err(refusal(10, 23)),
     );
-    checks.same("output as it was", out, [7; 20]);
+    checks.same("output as it was", out, [7; 22]);
     checks.same("refused line", put_line(&[], &mut [0; 12]), Ok(12));
     checks.same("no output", put_line(&[], &mut []), Err(refusal(10, 12)));
 }
@@ -64,10 +64,10 @@ pub fn check_records(checks: &mut Checks) {
         change(&mut content);
         content.bytes()
     };
-    same("listing", &text(|_| {}), "pass 1 25 16 0 121 121 217 -");
-    same("no rows", &listing(0).bytes(), "open 1 0 0 0 - - - -");
-    same("35 rows", &listing(35).bytes(), "open 1 24 15 0 121 121 217 -");
-    same("11 rows", &listing(11).bytes(), "open 1 0 0 0 - - - -");
+    same("listing", &text(|_| {}), "pass 1 25 16 0 0 121 121 217 -");
+    same("no rows", &listing(0).bytes(), "open 1 0 0 0 0 - - - -");
+    same("35 rows", &listing(35).bytes(), "open 1 24 15 0 0 121 121 217 -");
+    same("11 rows", &listing(11).bytes(), "open 1 0 0 0 0 - - - -");
     same("37 rows", &listing(37).bytes(), "refused 9 947");
     let mut unfit_37 = listing(37).bytes();
     unfit_37[947..951].copy_from_slice(&MISSING.to_le_bytes());
@@ -75,9 +75,9 @@ pub fn check_records(checks: &mut Checks) {
     same("stop after", &text(|c| (c.stop_rows, c.stop_causes) = (vec![36], vec![1])),
         "refused 9 948");
     same("stop at c = 0", &text(|c| (c.stop_rows, c.stop_causes) = (vec![0], vec![1])),
-        "pass 1 25 16 0 121 121 217 -");
+        "pass 1 25 16 0 0 121 121 217 -");
     same("stop in rest", &text(|c| (c.stop_rows, c.stop_causes) = (vec![1, 1], vec![1, 2])),
-        "open 1 0 0 0 - - - -");
+        "open 1 0 0 0 0 - - - -");
     same("empty input", &[], "refused 1 0");
     same("bytes left", &[&listing(36).bytes()[..], &[0]].concat(), "refused 7 948");
     same("one short", &listing(36).bytes()[..947], "refused 1 947");
@@ -188,13 +188,13 @@ pub fn check_writer(checks: &mut Checks) {
 #[rustfmt::skip]
 pub fn check_samples(checks: &mut Checks) {
     let ends = [
-        ("pass", "pass 1 25 16 0 "), ("dip", "pass 1 90 81 0 "), ("fail2", "fail 2 90 0 81 "),
-        ("incomplete", "incomplete 1 20 11 0 "), ("refused", "refused 9 "), ("hot", "pass 1 25 16 0 "),
-        ("engine_speed", "pass 1 25 16 0 121 121 24 "), ("engine_missing", "pass 1 25 16 0 121 121 24 -\n"),
-        ("unfit", "refused 8 209\n"), ("stops", "incomplete 1 0 0 0 - - - -\n"),
+        ("pass", "pass 1 25 16 0 0 "), ("dip", "pass 1 90 81 0 0 "), ("fail2", "fail 2 90 0 81 0 "),
+        ("incomplete", "incomplete 1 20 11 0 0 "), ("refused", "refused 9 "), ("hot", "pass 1 25 16 0 0 "),
+        ("engine_speed", "pass 1 25 16 0 0 121 121 24 "), ("engine_missing", "pass 1 25 16 0 0 121 121 24 -\n"),
+        ("unfit", "refused 8 209\n"), ("stops", "incomplete 1 0 0 0 0 - - - -\n"),
         ("too_long", "refused 7 60873\n"), ("too_long_wide", "refused 7 60965\n"),
-        ("listing", "pass 1 25 16 0 121 121 217 -\n"), ("wide", "pass 1 25 16 0 121 121 217 -\n"),
-        ("empty", "open 1 0 0 0 - - - -\n"),
+        ("listing", "pass 1 25 16 0 0 121 121 217 -\n"), ("wide", "pass 1 25 16 0 0 121 121 217 -\n"),
+        ("empty", "open 1 0 0 0 0 - - - -\n"),
     ];
     for (name, end) in ends {
         let line = sample(name).map_or(String::new(), |bytes| rejudge_line(&bytes) + "\n");
@@ -206,22 +206,23 @@ pub fn check_samples(checks: &mut Checks) {
 #[rustfmt::skip]
 pub fn check_named(checks: &mut Checks) {
     let ends = [
-        ("pass_rising", "pass 1 25 16 0 "), ("pass_out", "pass 1 25 15 0 "),
-        ("pass_ninety", "pass 1 90 81 0 "), ("pass_two", "pass 2 25 16 0 "),
-        ("fail_two", "fail 2 90 0 81 "), ("fail_inconclusive", "fail 2 90 14 24 "),
-        ("incomplete_stop", "incomplete 1 12 3 0 "), ("incomplete_void7", "incomplete 1 0 0 0 - - - -"),
-        ("incomplete_void8", "incomplete 1 74 0 65 "), ("incomplete_two", "incomplete 2 11 0 2 "),
-        ("open_settling", "open 1 0 0 0 - - - -"), ("open_measuring", "open 1 13 0 3 "),
-        ("open_rest", "open 1 0 0 0 - - - -"), ("open_restart", "open 1 4 0 0 - - - -"),
-        ("open_two", "open 2 0 0 0 - - - -"), ("open_two_rest", "open 2 0 0 0 - - - -"),
-        ("open_two_restart", "open 2 4 0 0 - - - -"),
-        ("engine_half_each", "open 1 13 4 0 121 121 25 4000"), ("engine_half_up", "open 1 13 4 0 121 121 25 4000"),
-        ("engine_half_down", "open 1 13 4 0 121 121 25 3999"), ("engine_older", "open 1 14 3 0 121 121 25 "),
-        ("engine_one_missing", "open 1 13 4 0 121 121 25 -"), ("engine_last_missing", "open 1 13 4 0 121 121 25 -"),
-        ("engine_zero", "open 1 13 4 0 121 121 25 0"),
-        ("dip_eight", "pass 1 25 16 0 "), ("dip_nine", "pass 1 90 81 0 "), ("dip_eleventh", "pass 1 25 16 0 "),
-        ("dip_forgotten", "pass 1 25 16 0 "), ("slow_fall", "open 1 25 16 0 "),
-        ("wide_beside", "pass 1 25 16 0 "), ("wide_many", "pass 1 25 16 0 "),
+        ("pass_rising", "pass 1 25 16 0 0 "), ("pass_out", "pass 1 25 15 0 1 "),
+        ("pass_ninety", "pass 1 90 81 0 0 "), ("pass_two", "pass 2 25 16 0 0 "),
+        ("fail_two", "fail 2 90 0 81 0 "), ("fail_inconclusive", "fail 2 90 14 24 43 "),
+        ("incomplete_stop", "incomplete 1 12 3 0 0 "), ("incomplete_void7", "incomplete 1 0 0 0 0 - - - -"),
+        ("incomplete_void8", "incomplete 1 74 0 65 0 "), ("incomplete_two", "incomplete 2 11 0 2 0 "),
+        ("open_settling", "open 1 0 0 0 0 - - - -"), ("open_measuring", "open 1 13 0 3 1 "),
+        ("open_rest", "open 1 0 0 0 0 - - - -"), ("open_restart", "open 1 4 0 0 0 - - - -"),
+        ("open_two", "open 2 0 0 0 0 - - - -"), ("open_two_rest", "open 2 0 0 0 0 - - - -"),
+        ("open_two_restart", "open 2 4 0 0 0 - - - -"),
+        ("engine_half_each", "open 1 13 4 0 0 121 121 25 4000"), ("engine_half_up", "open 1 13 4 0 0 121 121 25 4000"),
+        ("engine_half_down", "open 1 13 4 0 0 121 121 25 3999"), ("engine_older", "open 1 14 3 0 2 121 121 25 "),
+        ("engine_one_missing", "open 1 13 4 0 0 121 121 25 -"), ("engine_last_missing", "open 1 13 4 0 0 121 121 25 -"),
+        ("engine_zero", "open 1 13 4 0 0 121 121 25 0"),
+        ("dip_eight", "pass 1 25 16 0 0 "), ("dip_nine", "pass 1 90 81 0 0 "), ("dip_eleventh", "pass 1 25 16 0 0 "),
+        ("dip_forgotten", "pass 1 25 16 0 0 "), ("slow_fall", "open 1 25 16 0 0 "),
+        ("wide_beside", "pass 1 25 16 0 0 "), ("wide_many", "pass 1 25 16 0 0 "),
+        ("invalid", "pass 1 30 15 0 6 121 121 217 -"),
     ];
     for name in RECORDS {
         let line = sample(name).map_or(String::new(), |bytes| rejudge_line(&bytes));

@@ -47,7 +47,7 @@ pub fn check_settling(checks: &mut Checks) {
         let [c, n, g, t, u, w, passing, failing, rest, r, q] = numbers;
         format!(
             "{did} mode {mode} stage {stage} c {c} n {n} g {g} t {t} u {u} w {w} \
-             passing {passing} failing {failing} rest {rest} r {r} q {q} engine -"
+             passing {passing} failing {failing} invalid 0 rest {rest} r {r} q {q} engine -"
         )
     };
     let settling = |c, n, g, u, w| {
@@ -105,11 +105,11 @@ pub fn check_settling(checks: &mut Checks) {
     checks.same("mode 2, n = 15, g = 4", line, void_7);
 }
 
-/// did, next, mode, t, passing, failing, r, q of a script's last step.
+/// did, next, mode, t, passing, failing, invalid, r, q of a script's last step.
 pub fn short(write: impl Fn(&mut Script)) -> String {
     let line = last_line(write);
     let word: Vec<&str> = line.split(' ').collect();
-    [0, 1, 3, 13, 19, 21, 25, 27]
+    [0, 1, 3, 13, 19, 21, 23, 27, 29]
         .map(|i| word.get(i).copied().unwrap_or("?"))
         .join(" ")
 }
@@ -119,33 +119,33 @@ pub fn check_measuring(checks: &mut Checks) {
     let mut same = |name: &str, write: fn(&mut Script), want: &str| {
         checks.same(name, short(write), want.to_string());
     };
-    same("early pass", |s| s.pass(), "measured ends-pass 1 25 16 0 0 0");
-    same("t = 24", |s| { s.settle(); s.clean(24) }, "measured goes-on 1 24 15 0 0 0");
-    same("fall of 8", |s| { s.settle(); s.falling(25, 8) }, "measured ends-pass 1 25 16 0 0 0");
-    same("fall of 9", |s| { s.settle(); s.falling(89, 9) }, "measured goes-on 1 89 80 0 0 0");
-    same("late pass", |s| { s.settle(); s.falling(90, 9) }, "measured ends-pass 1 90 81 0 0 0");
+    same("early pass", |s| s.pass(), "measured ends-pass 1 25 16 0 0 0 0");
+    same("t = 24", |s| { s.settle(); s.clean(24) }, "measured goes-on 1 24 15 0 0 0 0");
+    same("fall of 8", |s| { s.settle(); s.falling(25, 8) }, "measured ends-pass 1 25 16 0 0 0 0");
+    same("fall of 9", |s| { s.settle(); s.falling(89, 9) }, "measured goes-on 1 89 80 0 0 0 0");
+    same("late pass", |s| { s.settle(); s.falling(90, 9) }, "measured ends-pass 1 90 81 0 0 0 0");
     same("early pass when out", |s| { s.settle(); s.clean(24); s.out(1) },
-        "measured ends-pass 1 25 15 0 0 0");
-    same("failing", |s| { s.settle(); s.dirty(90) }, "measured mode-2 2 0 0 0 0 0");
+        "measured ends-pass 1 25 15 0 1 0 0");
+    same("failing", |s| { s.settle(); s.dirty(90) }, "measured mode-2 2 0 0 0 0 0 0");
     same("failing in mode 2", |s| { s.to_mode_2(); s.settle(); s.dirty(90) },
-        "measured ends-fail 2 90 0 81 0 0");
-    same("pass in mode 2", |s| { s.to_mode_2(); s.pass() }, "measured ends-pass 2 25 16 0 0 0");
-    same("14 and 24", |s| { s.settle(); s.inconclusive(false) }, "void-9 rests 1 0 0 0 1 1");
-    same("failing 25", |s| { s.settle(); s.inconclusive(true) }, "measured mode-2 2 0 0 0 0 0");
-    same("u = 3", |s| { s.settle(); s.clean(20); s.out(3) }, "restarted goes-on 1 0 0 0 0 0");
-    same("u = 2", |s| { s.settle(); s.clean(20); s.out(2) }, "measured goes-on 1 22 11 0 0 0");
+        "measured ends-fail 2 90 0 81 0 0 0");
+    same("pass in mode 2", |s| { s.to_mode_2(); s.pass() }, "measured ends-pass 2 25 16 0 0 0 0");
+    same("14 and 24", |s| { s.settle(); s.inconclusive(false) }, "void-9 rests 1 0 0 0 0 1 1");
+    same("failing 25", |s| { s.settle(); s.inconclusive(true) }, "measured mode-2 2 0 0 0 0 0 0");
+    same("u = 3", |s| { s.settle(); s.clean(20); s.out(3) }, "restarted goes-on 1 0 0 0 0 0 0");
+    same("u = 2", |s| { s.settle(); s.clean(20); s.out(2) }, "measured goes-on 1 22 11 0 2 0 0");
     same("w = 6", |s| { s.settle(); for _ in 0..6 { s.clean(1); s.out(1) } },
-        "restarted goes-on 1 0 0 0 0 0");
+        "restarted goes-on 1 0 0 0 0 0 0");
     same("after a restart", |s| { s.settle(); s.clean(20); s.out(3); s.clean(12) },
-        "measured goes-on 1 12 3 0 0 0");
+        "measured goes-on 1 12 3 0 0 0 0");
     same("engine never out", |s| { s.settle(); s.seconds(20, |w| w.units[2] = 2999) },
-        "measured goes-on 1 20 0 0 0 0");
+        "measured goes-on 1 20 0 0 11 0 0");
     same("t = 90 at c = 145", |s| { s.far(44); s.settle(); s.dirty(90) },
-        "measured mode-2 2 0 0 0 0 0");
+        "measured mode-2 2 0 0 0 0 0 0");
     same("c = 145 at t = 89", |s| { s.far(45); s.settle(); s.dirty(89) },
-        "void-8 rests 1 0 0 0 1 0");
+        "void-8 rests 1 0 0 0 0 1 0");
     same("void 9 at c = 145", |s| { s.far(44); s.settle(); s.inconclusive(false) },
-        "void-9 rests 1 0 0 0 1 1");
+        "void-9 rests 1 0 0 0 0 1 1");
 }
 
 #[rustfmt::skip]
@@ -153,39 +153,39 @@ pub fn check_voids(checks: &mut Checks) {
     let mut same = |name: &str, write: fn(&mut Script), want: &str| {
         checks.same(name, short(write), want.to_string());
     };
-    same("void 6", |s| s.void(6), "void-6 rests 1 0 0 0 1 0");
-    same("stop", |s| { s.clean(3); s.stop(4) }, "void-4 rests 1 0 0 0 1 0");
-    same("stop at c = 0", |s| { s.idle(3, 10); s.stop(4) }, "nothing goes-on 1 0 0 0 0 0");
+    same("void 6", |s| s.void(6), "void-6 rests 1 0 0 0 0 1 0");
+    same("stop", |s| { s.clean(3); s.stop(4) }, "void-4 rests 1 0 0 0 0 1 0");
+    same("stop at c = 0", |s| { s.idle(3, 10); s.stop(4) }, "nothing goes-on 1 0 0 0 0 0 0");
     same("stop in rest", |s| { s.void(1); s.idle(5, 9); s.stop(2); s.idle(5, 9) },
-        "nothing rest-ended 1 0 0 0 1 0");
+        "nothing rest-ended 1 0 0 0 0 1 0");
     same("rest broken", |s| { s.void(1); s.idle(9, 9); s.seconds(1, |w| w.units[0] = 10);
-        s.idle(9, 9) }, "nothing goes-on 1 0 0 0 1 0");
+        s.idle(9, 9) }, "nothing goes-on 1 0 0 0 0 1 0");
     same("rest over", |s| { s.void(1); s.idle(9, 9); s.seconds(1, |w| w.units[0] = 10);
-        s.idle(10, 9) }, "nothing rest-ended 1 0 0 0 1 0");
+        s.idle(10, 9) }, "nothing rest-ended 1 0 0 0 0 1 0");
     same("three voids", |s| { s.void_and_rest(1); s.void_and_rest(2); s.settle(); s.clean(12);
-        s.stop(3) }, "void-3 ends-incomplete 1 12 3 0 3 0");
+        s.stop(3) }, "void-3 ends-incomplete 1 12 3 0 0 3 0");
     same("void not in t", |s| { s.void_and_rest(1); s.void_and_rest(2); s.void(5) },
-        "void-5 ends-incomplete 1 3 0 0 3 0");
+        "void-5 ends-incomplete 1 3 0 0 0 3 0");
     same("void 8 keeps t", |s| { s.void_and_rest(1); s.void_and_rest(2); s.void(8) },
-        "void-8 ends-incomplete 1 74 0 65 3 0");
-    same("q = 2", |s| { s.void_and_rest(9); s.void(9) }, "void-9 mode-2 2 0 0 0 0 0");
+        "void-8 ends-incomplete 1 74 0 65 0 3 0");
+    same("q = 2", |s| { s.void_and_rest(9); s.void(9) }, "void-9 mode-2 2 0 0 0 0 0 0");
     same("q = 2 in mode 2", |s| { s.to_mode_2(); s.void_and_rest(9); s.void(9) },
-        "void-9 ends-fail 2 90 14 24 2 2");
+        "void-9 ends-fail 2 90 14 24 43 2 2");
     same("q reset", |s| { s.void_and_rest(9); s.void_and_rest(7); s.void(9) },
-        "void-9 ends-incomplete 1 90 14 24 3 1");
+        "void-9 ends-incomplete 1 90 14 24 43 3 1");
     same("no restart of mode", |s| { s.to_mode_2(); s.void_and_rest(7) },
-        "nothing rest-ended 2 0 0 0 1 0");
+        "nothing rest-ended 2 0 0 0 0 1 0");
     same("idle is not looked at", |s| s.seconds(3, |w| {
         (w.units[0], w.units[4], w.units[6], w.over) = (10, 0, 0, 4)
-    }), "nothing goes-on 1 0 0 0 0 0");
+    }), "nothing goes-on 1 0 0 0 0 0 0");
     same("speed 11 is looked at", |s| s.seconds(1, |w| (w.units[0], w.over) = (11, 4)),
-        "void-6 rests 1 0 0 0 1 0");
+        "void-6 rests 1 0 0 0 0 1 0");
     same("over before diluted", |s| s.seconds(1, |w| (w.units[6], w.over) = (0, 5)),
-        "void-6 rests 1 0 0 0 1 0");
-    same("stop after c = 145", |s| { s.far(145); s.stop(1) }, "nothing goes-on 1 0 0 0 1 0");
+        "void-6 rests 1 0 0 0 0 1 0");
+    same("stop after c = 145", |s| { s.far(145); s.stop(1) }, "nothing goes-on 1 0 0 0 0 1 0");
     let line = last_line(|s| { s.void(1); s.seconds(1, |w| w.units[0] = 10); s.idle(3, 9) });
     let rest = "nothing goes-on mode 1 stage rest c 0 n 0 g 0 t 0 u 0 w 0 \
-        passing 0 failing 0 rest 3 r 1 q 0 engine -";
+        passing 0 failing 0 invalid 0 rest 3 r 1 q 0 engine -";
     checks.same("rest count", line, rest.to_string());
 }
 
@@ -197,43 +197,43 @@ pub fn check_kept(checks: &mut Checks) {
         checks.same(name, line.replace(" stage ended", ""), want.to_string());
     };
     same("pass keeps", |s| s.pass(),
-        "measured ends-pass mode 1 c 36 n 0 g 0 t 25 u 0 w 0 passing 16 failing 0 rest 0 r 0 q 0 engine 4000");
+        "measured ends-pass mode 1 c 36 n 0 g 0 t 25 u 0 w 0 passing 16 failing 0 invalid 0 rest 0 r 0 q 0 engine 4000");
     same("out pass keeps", |s| { s.settle(); s.clean(22); s.out(1); s.clean(1); s.out(1) },
-        "measured goes-on mode 1 stage measuring c 36 n 0 g 0 t 25 u 1 w 2 passing 13 failing 0 rest 0 r 0 q 0 \
+        "measured goes-on mode 1 stage measuring c 36 n 0 g 0 t 25 u 1 w 2 passing 13 failing 0 invalid 3 rest 0 r 0 q 0 \
          engine 4000");
     same("last second out", |s| { s.settle(); s.clean(24); s.out(1) },
-        "measured ends-pass mode 1 c 36 n 0 g 0 t 25 u 1 w 1 passing 15 failing 0 rest 0 r 0 q 0 engine 4000");
+        "measured ends-pass mode 1 c 36 n 0 g 0 t 25 u 1 w 1 passing 15 failing 0 invalid 1 rest 0 r 0 q 0 engine 4000");
     same("fail keeps", |s| { s.to_mode_2(); s.settle(); s.dirty(90) },
-        "measured ends-fail mode 2 c 95 n 0 g 0 t 90 u 0 w 0 passing 0 failing 81 rest 0 r 0 q 0 engine 4000");
+        "measured ends-fail mode 2 c 95 n 0 g 0 t 90 u 0 w 0 passing 0 failing 81 invalid 0 rest 0 r 0 q 0 engine 4000");
     same("void 7 keeps", |s| { s.void_and_rest(1); s.void_and_rest(2); s.unready(19); s.far(1);
             s.unready(1); s.clean(4) },
-        "void-7 ends-incomplete mode 1 c 25 n 25 g 4 t 0 u 1 w 1 passing 0 failing 0 rest 0 r 3 q 0 engine -");
+        "void-7 ends-incomplete mode 1 c 25 n 25 g 4 t 0 u 1 w 1 passing 0 failing 0 invalid 0 rest 0 r 3 q 0 engine -");
     same("void 7 in mode 2 keeps", |s| { s.to_mode_2(); s.void_and_rest(1); s.void_and_rest(2); s.far(2);
             s.unready(13); s.clean(2) },
-        "void-7 ends-incomplete mode 2 c 17 n 15 g 2 t 0 u 0 w 0 passing 0 failing 0 rest 0 r 3 q 0 engine -");
+        "void-7 ends-incomplete mode 2 c 17 n 15 g 2 t 0 u 0 w 0 passing 0 failing 0 invalid 0 rest 0 r 3 q 0 engine -");
     same("n = 25 on c = 145", |s| { s.void_and_rest(1); s.void_and_rest(2); s.far(120); s.unready(25) },
-        "void-7 ends-incomplete mode 1 c 145 n 25 g 0 t 0 u 0 w 0 passing 0 failing 0 rest 0 r 3 q 0 engine -");
+        "void-7 ends-incomplete mode 1 c 145 n 25 g 0 t 0 u 0 w 0 passing 0 failing 0 invalid 0 rest 0 r 3 q 0 engine -");
     same("void 5 in settling keeps", |s| { s.void_and_rest(1); s.void_and_rest(2); s.clean(3); s.far(1);
             s.seconds(1, |w| (w.units[4], w.units[6]) = (99, 50)) },
-        "void-5 ends-incomplete mode 1 c 5 n 4 g 0 t 0 u 1 w 1 passing 0 failing 0 rest 0 r 3 q 0 engine -");
+        "void-5 ends-incomplete mode 1 c 5 n 4 g 0 t 0 u 1 w 1 passing 0 failing 0 invalid 0 rest 0 r 3 q 0 engine -");
     same("void 6 on the first second", |s| { s.void_and_rest(1); s.void_and_rest(2);
             s.seconds(1, |w| w.over = 7) },
-        "void-6 ends-incomplete mode 1 c 1 n 0 g 0 t 0 u 0 w 0 passing 0 failing 0 rest 0 r 3 q 0 engine -");
+        "void-6 ends-incomplete mode 1 c 1 n 0 g 0 t 0 u 0 w 0 passing 0 failing 0 invalid 0 rest 0 r 3 q 0 engine -");
     same("stop in settling keeps", |s| { s.void_and_rest(1); s.void_and_rest(2); s.void(3) },
-        "void-3 ends-incomplete mode 1 c 7 n 7 g 7 t 0 u 0 w 0 passing 0 failing 0 rest 0 r 3 q 0 engine -");
+        "void-3 ends-incomplete mode 1 c 7 n 7 g 7 t 0 u 0 w 0 passing 0 failing 0 invalid 0 rest 0 r 3 q 0 engine -");
     same("void 8 in settling keeps", |s| { s.void_and_rest(1); s.void_and_rest(2); s.far(130); s.unready(13);
             s.clean(2) },
-        "void-8 ends-incomplete mode 1 c 145 n 15 g 2 t 0 u 0 w 0 passing 0 failing 0 rest 0 r 3 q 0 engine -");
+        "void-8 ends-incomplete mode 1 c 145 n 15 g 2 t 0 u 0 w 0 passing 0 failing 0 invalid 0 rest 0 r 3 q 0 engine -");
     same("void 8 where measuring begins", |s| { s.void_and_rest(1); s.void_and_rest(2); s.far(134); s.clean(11) },
-        "void-8 ends-incomplete mode 1 c 145 n 0 g 0 t 0 u 0 w 0 passing 0 failing 0 rest 0 r 3 q 0 engine -");
+        "void-8 ends-incomplete mode 1 c 145 n 0 g 0 t 0 u 0 w 0 passing 0 failing 0 invalid 0 rest 0 r 3 q 0 engine -");
     same("void 8 at a restart", |s| { s.void_and_rest(1); s.void_and_rest(2); s.far(131); s.clean(11); s.out(3) },
-        "void-8 ends-incomplete mode 1 c 145 n 0 g 0 t 0 u 0 w 0 passing 0 failing 0 rest 0 r 3 q 0 engine -");
+        "void-8 ends-incomplete mode 1 c 145 n 0 g 0 t 0 u 0 w 0 passing 0 failing 0 invalid 0 rest 0 r 3 q 0 engine -");
     same("void 6 in measuring keeps", |s| { s.void_and_rest(1); s.void_and_rest(2); s.settle(); s.clean(3);
             s.out(1); s.seconds(1, |w| w.over = 4) },
-        "void-6 ends-incomplete mode 1 c 16 n 0 g 0 t 4 u 1 w 1 passing 0 failing 0 rest 0 r 3 q 0 engine -");
+        "void-6 ends-incomplete mode 1 c 16 n 0 g 0 t 4 u 1 w 1 passing 0 failing 0 invalid 0 rest 0 r 3 q 0 engine -");
     same("stop in measuring keeps", |s| { s.void_and_rest(1); s.void_and_rest(2); s.settle(); s.out(2);
             s.clean(1); s.out(1); s.stop(2) },
-        "void-2 ends-incomplete mode 1 c 15 n 0 g 0 t 4 u 1 w 3 passing 0 failing 0 rest 0 r 3 q 0 engine -");
+        "void-2 ends-incomplete mode 1 c 15 n 0 g 0 t 4 u 1 w 3 passing 0 failing 0 invalid 0 rest 0 r 3 q 0 engine -");
 }
 
 /// Seconds and stops on an ended test are 13, before 8 and 15.
@@ -287,12 +287,12 @@ type Outcome = (Option<Verdict>, u8, Vec<u8>, Option<u128>);
 fn both_ways(car: Vehicle, items: Vec<Item>) -> (Outcome, Outcome) {
     let (seconds, stops) = lists_of(car.automatic, &items);
     let whole = judge_test(&car, &seconds, &stops);
-    let (t, passing, failing) = (whole.t, whole.passing, whole.failing);
     let verdict = whole.word.map(|word| Verdict {
         word,
-        t,
-        passing,
-        failing,
+        t: whole.t,
+        passing: whole.passing,
+        failing: whole.failing,
+        invalid: whole.invalid,
     });
     let script = Script {
         items,

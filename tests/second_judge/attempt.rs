@@ -52,12 +52,20 @@ pub struct Attempt {
     pub t: usize,
     pub passing: usize,
     pub failing: usize,
+    pub invalid: usize,
     pub window: Option<Averages>, // of the last valid window
     pub engine: Option<u128>,     // the mean of that window, none with a speed missing
     pub did: Did,
     pub end: Option<End>,
     pub seconds_used: usize, // first second of the list not yet looked at
     pub stops_used: usize,
+}
+
+impl Attempt {
+    /// A.8: from t = 9 on the three counts are t − 9 together, before it they are 0.
+    fn accounted(&self) -> bool {
+        self.passing + self.failing + self.invalid == self.t.saturating_sub(9)
+    }
 }
 
 /// Judges the attempt that begins at second `from`. `stops` are those not yet
@@ -91,6 +99,7 @@ pub fn judge_attempt(
     }
     attempt.seconds_used += first;
     attempt.stops_used += idle_stops;
+    assert!(attempt.accounted(), "a window is not accounted for");
     attempt
 }
 
@@ -166,6 +175,7 @@ fn settle_and_measure(car: &Vehicle, mode: u8, counted: &[Second]) -> Attempt {
         t: 0,
         passing: 0,
         failing: 0,
+        invalid: 0,
         window: None,
         engine: None,
         did: Did::Nothing,
@@ -343,6 +353,7 @@ struct Run {
     t: usize,
     passing: usize,
     failing: usize,
+    invalid: usize,
     last_valid: Option<usize>, // index of the second that ends it
     end: Option<End>,
 }
@@ -353,6 +364,7 @@ fn judge_run(car: &Vehicle, run: &[Measured]) -> Run {
         t: run.len(),
         passing: 0,
         failing: 0,
+        invalid: 0,
         last_valid: None,
         end: None,
     };
@@ -365,6 +377,8 @@ fn judge_run(car: &Vehicle, run: &[Measured]) -> Run {
             } else {
                 judged.failing += 1;
             }
+        } else {
+            judged.invalid += 1;
         }
         judged.end = ending(&run[..=i], judged.passing, judged.failing);
         if judged.end.is_some() {
@@ -395,6 +409,7 @@ fn keep_run(run: &Run, list: &[Measured], attempt: &mut Attempt, car: &Vehicle) 
     attempt.t = run.t;
     attempt.passing = run.passing;
     attempt.failing = run.failing;
+    attempt.invalid = run.invalid;
     let window = run.last_valid.map(|i| &list[i - 9..=i]);
     attempt.window = window.map(|window| averages(&window_sums(car, window)));
     attempt.engine = window.and_then(engine_mean);

@@ -12,7 +12,7 @@ use crate::make_records::{
 };
 use crate::make_tests::put_topic;
 use crate::modes::write_item;
-use crate::named_records::{listing, small_record, BEFORE_WIDE, RECORDS};
+use crate::named_records::{listing, small_record, BEFORE_WIDE, PAST_WIDE, RECORDS};
 use crate::numbers::{refusal, MISSING};
 use crate::record::Content;
 use crate::rejudging::rejudge_line;
@@ -313,14 +313,14 @@ fn wide_line_records() -> Vec<Vec<u8>> {
     let more = [263, 519, 32775].into_iter();
     let open = more.fold(listing(2), |c, code| with_channel(&c, 0, code, |_| MISSING));
     let open = open.bytes();
-    let named = RECORDS.iter().skip(BEFORE_WIDE);
+    let named = RECORDS[BEFORE_WIDE..PAST_WIDE].iter();
     let mut records: Vec<Vec<u8>> = named.filter_map(|name| small_record(name)).collect();
     records.extend([open[..15].to_vec(), open]);
     records
 }
 
 /// Each record into outputs of every length up to 3 above its line's, and long ones, the wide ones
-/// only into those about as long as their lines; then COUNT seeded records into outputs so.
+/// and one with invalid windows only into those about as long as their lines; then COUNT seeded records into outputs so.
 pub fn make_line(seed: u64, count: usize) -> Vec<u8> {
     let mut dice = Dice(seed ^ 0x6C69_6E65);
     let mut out = Vec::new();
@@ -334,7 +334,8 @@ pub fn make_line(seed: u64, count: usize) -> Vec<u8> {
             put_line_item(&mut out, length, 0xA5, &record);
         }
     }
-    for record in wide_line_records() {
+    let invalid = small_record("invalid");
+    for record in wide_line_records().into_iter().chain(invalid) {
         let needed = rejudge_line(&record).len() + 1;
         for length in [needed - 1, needed, needed + 1] {
             put_line_item(&mut out, length, 0x5A, &record);

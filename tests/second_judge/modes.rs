@@ -21,7 +21,14 @@ use std::process::{Command, Stdio};
 pub fn answer_line(answer: &Answer) -> String {
     match answer {
         Ok(None) => "ok".to_string(),
-        Ok(Some(v)) => format!("ok {} {} {} {}", v.word.text(), v.t, v.passing, v.failing),
+        Ok(Some(v)) => format!(
+            "ok {} {} {} {} {}",
+            v.word.text(),
+            v.t,
+            v.passing,
+            v.failing,
+            v.invalid
+        ),
         Err(refusal) => refusal.to_string(),
     }
 }
@@ -276,7 +283,7 @@ fn state_text(s: &State) -> String {
     let Standing { mode, r, q } = s.standing;
     format!(
         "mode {mode} stage {stage} c {} n {} g {} t {} u {} w {} \
-         passing {} failing {} rest {} r {r} q {q} engine {}",
+         passing {} failing {} invalid {} rest {} r {r} q {q} engine {}",
         s.c,
         s.n,
         s.g,
@@ -285,6 +292,7 @@ fn state_text(s: &State) -> String {
         s.w,
         s.passing,
         s.failing,
+        s.invalid,
         s.rest,
         engine_text(s.engine),
     )

@@ -22,9 +22,16 @@ pub fn listing(rows: usize) -> Content {
     }
 }
 
-/// Small records by name: each ends in another way, or has its engine speed, its dip or its channels
-/// for another reason.
-pub const RECORDS: [&str; 49] = [
+/// The listing with the load of measured second 6 out: six windows are invalid, and the pass comes at t = 30.
+fn invalid_listing() -> Content {
+    let mut content = listing(41);
+    content.cells[6 * 16 + 1] = 0.88f32.to_bits();
+    content
+}
+
+/// Small records by name: each ends in another way, or has its engine speed, its dip, its channels or
+/// its invalid windows for another reason.
+pub const RECORDS: [&str; 50] = [
     "pass_rising",
     "pass_out",
     "pass_ninety",
@@ -74,10 +81,14 @@ pub const RECORDS: [&str; 49] = [
     "refused_3_wide",
     "refused_8_wide",
     "refused_19",
+    "invalid",
 ];
 
 /// How many of RECORDS come before those about the wide form.
 pub const BEFORE_WIDE: usize = 43;
+
+/// How many come before those behind them.
+pub const PAST_WIDE: usize = 49;
 
 /// The records of the engine speed that have an automatic gearbox.
 const AUTOMATIC: [&str; 4] = [
@@ -94,6 +105,9 @@ pub fn small_record(name: &str) -> Option<Vec<u8>> {
 
 /// The content of a record of RECORDS, unfit where its name says so.
 pub fn small_content(name: &str) -> Option<Content> {
+    if name == "invalid" {
+        return Some(invalid_listing());
+    }
     let place = RECORDS.iter().position(|known| *known == name)?;
     let moped = name.contains("two") || name.ends_with("inconclusive");
     let engine = name.starts_with("engine_");

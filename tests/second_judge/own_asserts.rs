@@ -1,5 +1,6 @@
 //! The judge's own asserts: document 01's worked cases and its plausible and wrong ones.
 
+use crate::asserts_accounted::{check_accounted, check_invalid_gathered};
 use crate::asserts_bench::{after_tries, check_bench, check_locks, check_tries, last_answer, GOOD};
 use crate::asserts_channels::{
     check_behind_wide, check_both_forms, check_channel_cases, check_wide_bytes, check_wide_reading,
@@ -28,6 +29,9 @@ use crate::asserts_test::{
 };
 use crate::asserts_whys::{
     check_why_newest, check_why_none, check_why_of_locks, check_why_rows, check_why_tests,
+};
+use crate::asserts_windows::{
+    check_emptied, check_invalid, check_invalid_printed, check_kept_invalid, check_window_names,
 };
 use crate::bench::Event;
 use crate::make_events::{least, make_events};
@@ -157,7 +161,7 @@ fn check_plausible(checks: &mut Checks) {
     checks.same(
         "r = 3 and q = 2 in a test",
         short(whole),
-        "void-9 mode-2 2 0 0 0 0 0".into(),
+        "void-9 mode-2 2 0 0 0 0 0 0".into(),
     );
 }
 
@@ -198,7 +202,7 @@ fn check_least(checks: &mut Checks) {
 }
 
 /// All the asserts, in their order.
-const CHECKS: [fn(&mut Checks); 59] = [
+const CHECKS: [fn(&mut Checks); 66] = [
     check_readings,
     check_rounding,
     check_corrections,
@@ -211,6 +215,11 @@ const CHECKS: [fn(&mut Checks); 59] = [
     check_ended,
     check_engines,
     check_dips,
+    check_invalid,
+    check_emptied,
+    check_kept_invalid,
+    check_invalid_printed,
+    check_window_names,
     check_records,
     check_writer,
     check_round_trips,
@@ -255,6 +264,8 @@ const CHECKS: [fn(&mut Checks); 59] = [
     check_plausible,
     check_growing,
     check_gathered,
+    check_accounted,
+    check_invalid_gathered,
     check_samples,
     check_named,
     check_least,

@@ -10,7 +10,8 @@ use crate::reach::{names, texts, Reach};
 use crate::reach_dips::{dips_in_events, Runs};
 use crate::reach_prepares::{prepare_names, Refused};
 use crate::reach_runs::{reach_run_refused, reach_start, run_names};
-use crate::reach_tests::units_of;
+use crate::reach_tests::{second_in, units_of};
+use crate::reach_windows::{windows_in_events, Windows};
 use crate::running::Running;
 
 /// What of a list of events must be looked at with those before it.
@@ -80,6 +81,7 @@ fn required_of_events() -> Vec<String> {
     required.extend(run_names());
     required.extend(prepare_names());
     required.extend(dips_in_events());
+    required.extend(windows_in_events());
     required
 }
 
@@ -91,7 +93,7 @@ pub fn reach_events(data: &[u8]) -> Reach {
         reach.count("refused 15 0");
         return reach;
     };
-    let (mut trail, mut runs) = (Trail::default(), Runs::default());
+    let (mut trail, mut shown) = (Trail::default(), Shown::default());
     while let Some((clock, event)) = items.event() {
         let before = bench.last;
         let quiet = quiet_name(&bench);
@@ -101,7 +103,7 @@ pub fn reach_events(data: &[u8]) -> Reach {
             Ok(verdict) => {
                 verdict.map(|verdict| reach.count(verdict.word.text()));
                 reach_accepted(&mut reach, &event, running.is_some(), clock);
-                running.map(|test| reach_dips(&mut reach, &mut runs, test, &event));
+                running.map(|test| shown.step(&mut reach, test, &event));
                 trail.accepted(&mut reach, &bench, clock, &event);
                 trail.quiet_stop = match event {
                     Event::Stop(_) if clock > before => quiet.map(|name| (before, name)),
@@ -113,12 +115,27 @@ pub fn reach_events(data: &[u8]) -> Reach {
     reach
 }
 
-/// What an accepted second or stop shows of the dips of the test it came to.
-fn reach_dips(reach: &mut Reach, runs: &mut Runs, mut test: Running, event: &Event) {
-    let speed = units_of(event, 1, test.car.automatic);
-    if let Ok(step) = step_of(&mut test, event) {
-        let shown = runs.step(speed, &step);
-        shown.into_iter().for_each(|name| reach.count(name));
+/// What the tests show of dips and of invalid windows.
+#[derive(Default)]
+struct Shown {
+    runs: Runs,
+    windows: Windows,
+}
+
+impl Shown {
+    /// Takes an accepted event and the test that it came to.
+    fn step(&mut self, reach: &mut Reach, mut test: Running, event: &Event) {
+        let (car, automatic) = (test.car, test.car.automatic);
+        if let Ok(step) = step_of(&mut test, event) {
+            let dips = self.runs.step(units_of(event, 1, automatic), &step);
+            let second = second_in(event, automatic);
+            let windows = self.windows.step(&car, second, &step);
+            let names = dips.into_iter().chain(windows);
+            names.for_each(|name| reach.count(name));
+        }
+        if test.ended || *event == Event::PowerOn {
+            self.windows = Windows::default();
+        }
     }
 }
 

@@ -7,6 +7,7 @@ use crate::reach::{names, texts, Reach};
 use crate::reach_channels::{read_names, Seen};
 use crate::reach_dips::{dips_in_records, Runs};
 use crate::reach_engines::{Engines, ON_THE_SHEET};
+use crate::reach_windows::{windows_in_records, Windows};
 use crate::record::{read_record, u16_at, Record};
 use crate::rejudging::rejudge;
 use crate::running::{Running, Step};
@@ -75,6 +76,7 @@ pub fn reach_records(data: &[u8]) -> Reach {
     required.extend(texts(&["open in mode 2, no window"]));
     required.extend(texts(&ON_THE_SHEET));
     required.extend(dips_in_records());
+    required.extend(windows_in_records());
     required.extend(names("void ", 1..=9));
     required.extend(names("refused ", 1..=9));
     required.extend(texts(&["refused 19"]));
@@ -159,10 +161,16 @@ fn reach_judged(reach: &mut Reach, record: &[u8], judged: &Judged) {
         open_without_window(&steps).map(|what| reach.count(what));
     }
     let (mut runs, mut engines) = (Runs::default(), Engines::default());
+    let (car, mut windows) = (record.vehicle(), Windows::default());
     for (second, step) in &steps {
+        let shown = windows.step(&car, *second, step);
+        shown.into_iter().for_each(|name| reach.count(name));
         let shown = runs.step(second.map(|s| s.speed), step);
         shown.into_iter().for_each(|name| reach.count(name));
         engines.step(second.and_then(|s| s.engine), step);
+    }
+    if judged.word.is_none() {
+        windows.open_name(judged.mode).map(|what| reach.count(what));
     }
     let sheet = engines.names(record.settings[3] == 2);
     sheet.iter().for_each(|name| reach.count(*name));

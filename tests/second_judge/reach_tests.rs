@@ -4,42 +4,45 @@ use crate::attempt::Did;
 use crate::bench::Event;
 use crate::items::Items;
 use crate::modes::{did_text, next_text, test_item};
-use crate::numbers::{judge_reading, judge_readings, Reading};
+use crate::numbers::{judge_reading, judge_readings, second_of, Reading, Second};
 use crate::reach::{names, texts, Reach};
 use crate::reach_dips::{dips_in_tests, Runs};
 use crate::reach_engines::{Engines, IN_A_TEST, ON_THE_SHEET};
+use crate::reach_windows::{windows_in_tests, Windows};
 use crate::record::cause_fits;
 use crate::running::{Running, Step};
 use crate::test::Next;
+use crate::vehicle::Vehicle;
 
 pub fn reach_tests(data: &[u8]) -> Reach {
     let mut reach = Reach::new(required_of_tests());
     let mut items = Items { data };
     let mut test: Option<Running> = None;
-    let (mut runs, mut engines) = (Runs::default(), Engines::default());
+    let mut shown = Shown::default();
     while let Some(event) = items.u8().and_then(|kind| items.fields(kind)) {
         let mode = test.as_ref().map_or(0, |t| t.standing.mode);
         let c = test.as_ref().map_or(0, |t| t.seconds.len() + 1);
-        let automatic = test.as_ref().is_some_and(|t| t.car.automatic);
+        let car = test.as_ref().map(|t| t.car);
+        let automatic = car.is_some_and(|car| car.automatic);
         if test.as_ref().is_some_and(|t| t.ended) {
             reach_after_end(&mut reach, &event, automatic);
         }
         match test_item(&mut test, &event) {
-            Ok(None) => reach.count("begun"),
+            Ok(None) => {
+                shown.windows = Windows::default();
+                reach.count("begun")
+            }
             Err(refusal) => reach.count(refusal.to_string()),
             Ok(Some(step)) => {
                 let (did, next) = (did_text(step.did), next_text(step.next));
                 reach.count(format!("{did} {next} in mode {mode}"));
                 reach.count(did);
                 reach.count(next);
-                let shown = runs.step(units_of(&event, 1, automatic), &step);
-                shown.into_iter().for_each(|name| reach.count(name));
                 if step.did == Did::Void(7) && c == 145 {
                     reach.count(format!("void-7 at c = 145 in mode {mode}"));
                 }
-                let emptied = engines.step(units_of(&event, 3, automatic), &step);
-                let names = engines.names(automatic).into_iter().chain(emptied);
-                names.for_each(|name| reach.count(name));
+                let names = car.map(|car| shown.step(&car, &event, &step));
+                names.iter().flatten().for_each(|name| reach.count(name));
                 if let Next::Ends(_) = step.next {
                     reach_kept(&mut reach, &step);
                 }
@@ -49,6 +52,26 @@ pub fn reach_tests(data: &[u8]) -> Reach {
     reach
 }
 
+/// What a test shows of dips, of invalid windows and of engine speeds.
+#[derive(Default)]
+struct Shown {
+    runs: Runs,
+    windows: Windows,
+    engines: Engines,
+}
+
+impl Shown {
+    fn step(&mut self, car: &Vehicle, event: &Event, step: &Step) -> Vec<String> {
+        let second = second_in(event, car.automatic);
+        let mut shown = self.runs.step(second.map(|s| s.speed), step);
+        shown.extend(self.windows.step(car, second, step));
+        let emptied = self.engines.step(second.and_then(|s| s.engine), step);
+        let engines = self.engines.names(car.automatic).into_iter().chain(emptied);
+        shown.extend(engines.map(str::to_string));
+        shown
+    }
+}
+
 /// The units of a code in a second.
 pub fn units_of(event: &Event, code: u8, automatic: bool) -> Option<i64> {
     match event {
@@ -56,6 +79,14 @@ pub fn units_of(event: &Event, code: u8, automatic: bool) -> Option<i64> {
             Some(Reading::Units(units)) => Some(units),
             _ => None,
         },
+        _ => None,
+    }
+}
+
+/// The second that an event brings, where it is fit.
+pub fn second_in(event: &Event, automatic: bool) -> Option<Second> {
+    match event {
+        Event::Second(bits) => judge_readings(automatic, bits).ok().map(|r| second_of(&r)),
         _ => None,
     }
 }
@@ -110,6 +141,7 @@ fn required_of_tests() -> Vec<String> {
     required.extend(texts(&ON_THE_SHEET));
     required.extend(texts(&IN_A_TEST));
     required.extend(dips_in_tests());
+    required.extend(windows_in_tests());
     required.extend(names("void-7 at c = 145 in mode ", 1..=2));
     for mode in 1..=2 {
         for void in 1..=9 {

@@ -18,6 +18,7 @@ pub struct State {
     pub w: usize,
     pub passing: usize,
     pub failing: usize,
+    pub invalid: usize,
     pub rest: usize,
     pub engine: Option<u128>, // the mean of the last valid window
 }
@@ -36,6 +37,7 @@ impl State {
             w,
             passing: 0,
             failing: 0,
+            invalid: 0,
             rest: 0,
             engine: None,
         }
@@ -51,6 +53,7 @@ impl State {
             w: a.w,
             passing: a.passing,
             failing: a.failing,
+            invalid: a.invalid,
             engine: a.engine,
             ..State::empty(standing, a.stage)
         }
@@ -72,6 +75,7 @@ pub struct Verdict {
     pub t: usize,
     pub passing: usize,
     pub failing: usize,
+    pub invalid: usize,
 }
 
 /// What a second or stop did, what follows, and the state after it.
@@ -87,6 +91,7 @@ impl Step {
             t,
             passing,
             failing,
+            invalid,
             ..
         } = self.state;
         match self.next {
@@ -95,6 +100,7 @@ impl Step {
                 t,
                 passing,
                 failing,
+                invalid,
             }),
             _ => None,
         }

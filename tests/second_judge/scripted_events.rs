@@ -163,12 +163,14 @@ impl Story {
         self.play(&mut script);
     }
 
-    /// A test with a dip at second 6: of 9, and the pass comes at t = 90, or of 8, and it comes at t = 25.
+    /// A test with a dip at second 6: of 9, and the pass comes at t = 90, or of 8, and it comes at t = 25;
+    /// its last second is out, so that its last window is invalid.
     pub fn dip(&mut self, depth: i64, count: usize) {
         self.fresh();
         let mut script = self.start();
         script.settle();
-        script.dip(6, depth, count);
+        script.dip(6, depth, count - 1);
+        script.out(1);
         self.play(&mut script);
     }
 
@@ -453,9 +455,10 @@ pub fn scripted_events(v: u32, u: u16, dice: &mut Dice) -> Vec<(u32, Event)> {
     story.stops_and_clock();
     story.refused_second_and_lock_2();
     story.near_the_end();
-    story.fail();
+    story.fail_with_invalid();
     story.unsent_lock();
     story.dip(9, 90);
     story.dip(8, 25);
+    story.first_windows();
     story.events
 }

@@ -53,6 +53,7 @@ mod scripted_journals;
 mod scripted_prepares;
 mod scripted_runs;
 mod scripted_tests;
+mod scripted_windows;
 
 // What an input reaches.
 mod journal_walk;
@@ -68,8 +69,10 @@ mod reach_runs;
 mod reach_starts;
 mod reach_tests;
 mod reach_whys;
+mod reach_windows;
 
 // Own asserts.
+mod asserts_accounted;
 mod asserts_bench;
 mod asserts_channels;
 mod asserts_coast_down;
@@ -82,6 +85,7 @@ mod asserts_record;
 mod asserts_starts;
 mod asserts_test;
 mod asserts_whys;
+mod asserts_windows;
 mod own_asserts;
 
 use crate::journal_modes::{

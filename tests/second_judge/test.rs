@@ -106,6 +106,7 @@ pub struct Judged {
     pub t: usize,
     pub passing: usize,
     pub failing: usize,
+    pub invalid: usize,
     pub window: Option<Averages>,
     pub engine: Option<u128>,
     pub voids: Vec<u8>, // of all its attempts, in order
@@ -118,8 +119,8 @@ impl fmt::Display for Judged {
         let word = self.word.map_or("open", Word::text);
         write!(
             f,
-            "{} {} {} {} {} ",
-            word, self.mode, self.t, self.passing, self.failing
+            "{} {} {} {} {} {} ",
+            word, self.mode, self.t, self.passing, self.failing, self.invalid
         )?;
         match &self.window {
             Some(a) => write!(f, "{} {} {}", a.hc, a.co, a.no)?,
@@ -181,6 +182,7 @@ fn judged(
         t: attempt.map_or(0, |a| a.t),
         passing: attempt.map_or(0, |a| a.passing),
         failing: attempt.map_or(0, |a| a.failing),
+        invalid: attempt.map_or(0, |a| a.invalid),
         window: attempt.and_then(|a| a.window),
         engine: attempt.and_then(|a| a.engine),
         voids,
