@@ -46,9 +46,9 @@ verdicts_in (Ok None ∷ l) = verdicts_in l
 verdicts_in (Ok (Some x) ∷ l) = x ∷ verdicts_in l
 verdicts_in (Err r ∷ l) = verdicts_in l
 
--- A sheet's verdict with its word: word, t, passing, failing.
+-- A sheet's verdict with its word: word, t, passing, failing, invalid.
 abbrev pub verdict_with : Word → Sheet → Verdict
-verdict_with w x = record { word = w; t = x.t; passing = x.passing; failing = x.failing }
+verdict_with w x = record { word = w; t = x.t; passing = x.passing; failing = x.failing; invalid = x.invalid }
 
 -- The verdict that a sheet shows, or none while it is open.
 unfoldable pub verdict_shown : Option Word → Sheet → List Verdict

@@ -1,11 +1,13 @@
 -- What is claimed of the rules of an attempt, in numbers. Each claim is carried by the contract of the function that it is about.
-use Rattle.std.specs.Prelude.{ℕ, suc, ◌≤◌, ◌<◌, min, Bool, true, false, ◌≡◌, List, ◌∷◌, ◌⊎◌, ◌↔◌, length}
+use Rattle.std.specs.Prelude.{ℕ, suc, ◌+◌, ◌-◌, ◌≤◌, ◌<◌, min, Bool, true, false, ◌≡◌, List, ◌∷◌, ◌⊎◌, ◌↔◌, length}
 use Rattle.reading.specs.declared.Second.{Second}
 use Rattle.correction.specs.Dilution.{dilution_sum}
 use Rattle.vehicle.specs.declared.Vehicle.{Vehicle}
 use Rattle.vehicle.specs.declared.Mode.{Mode}
 use Rattle.attempt.specs.declared.SettlingCounts.{SettlingCounts}
+use Rattle.attempt.specs.declared.MeasuringCounts.{MeasuringCounts}
 use Rattle.attempt.specs.declared.WindowCounts.{WindowCounts}
+use Rattle.attempt.specs.declared.WindowOutcome.{WindowOutcome}
 use Rattle.attempt.specs.declared.Screen.{Screen}
 use Rattle.attempt.specs.declared.Screen.TheVariants.{Waits, Flawed, Clear}
 use Rattle.attempt.specs.declared.Ending.{Ending}
@@ -16,8 +18,8 @@ use Rattle.attempt.specs.Settling.{second_one, second_two}
 use Rattle.attempt.specs.Ending.{ending_rule}
 use Rattle.attempt.specs.Speeds.{speed_at, speed_held, SpeedHeld}
 use Rattle.attempt.specs.Counting.{row_of, all_of}
-use Rattle.attempt.specs.Measuring.{still_held}
-use Rattle.attempt.specs.Runs.{Taken, outs, speeds, run_of, counts_after}
+use Rattle.attempt.specs.Measuring.{still_held, window_counted}
+use Rattle.attempt.specs.Runs.{Driven, outs, speeds, run_of, counts_after}
 
 -- What each outcome of steps 2 and 3 says of c and the second, at every stage: a second that is not void and does not wait is neither
 -- over range in codes 4 to 7 nor diluted, and at c = 0 its speed is above 10.
@@ -68,18 +70,39 @@ HeldMore =
     t ≡ min (suc (length l)) 255 →
     still_held t (speed_at 1 (speed ∷ l)) speed (speed_held l) ≡ speed_held (speed ∷ l)
 
--- The counts are those of the seconds of this t themselves, and what is kept of the speed drop is so of their speeds: a restart forgets a dip.
-pub record RunTold (l : List Taken) : Type 0 where
+-- "from t = 9 on, passing, failing and invalid together shall be exactly t − 9" (document 02, A.8), and before t = 10 each is 0.
+pub record Accounted (t passing failing invalid : ℕ) : Type 0 where
+  pub none : t < 10 → (passing ≡ 0) × (failing ≡ 0) × (invalid ≡ 0)
+  pub exact : 9 ≤ t → passing + failing + invalid ≡ t - 9
+
+-- The same of the counts of measuring.
+abbrev pub AllAccounted : MeasuringCounts → Type 0
+AllAccounted k = Accounted k.seconds k.windows.passing k.windows.failing k.windows.invalid
+
+-- One measured second more, where every window before it is accounted for: with the one that ends there they are so again. A.8's law for every
+-- test and every bench rests on this, and `CountsTold` does.
+abbrev pub OneWindowMore : Type 0
+OneWindowMore =
+    (x : WindowOutcome) (n : ℕ) (k : MeasuringCounts) →
+    n ≤ 254 →
+    k.seconds ≡ suc n →
+    Accounted n k.windows.passing k.windows.failing k.windows.invalid →
+    AllAccounted (window_counted x k)
+
+-- The counts are those of the seconds of this t themselves, and what is kept of the speed drop is so of their speeds: a restart forgets a dip
+-- and every window before it.
+pub record RunTold (l : List Driven) : Type 0 where
   -- t is held at the greatest number of its byte, which no test reaches
   pub t : (counts_after l).seconds ≡ min (length (run_of l)) 255
   pub u : (counts_after l).row ≡ row_of (outs (run_of l))
   pub w : (counts_after l).all ≡ all_of (outs (run_of l))
   pub first : (counts_after l).first ≡ speed_at 1 (speeds (run_of l))
   pub held : ((counts_after l).held ≡ true) ↔ SpeedHeld (speeds (run_of l))
+  pub windows : length (run_of l) ≤ 255 → AllAccounted (counts_after l)
 
--- For every list of seconds and windows.
+-- For every list of seconds.
 abbrev pub CountsTold : Type 0
-CountsTold = (l : List Taken) → RunTold l
+CountsTold = (l : List Driven) → RunTold l
 
 -- What each outcome of the ending rule says of t, the windows and whether the speed held.
 abbrev pub RuleSays : ℕ → WindowCounts → Bool → Ending → Type 0

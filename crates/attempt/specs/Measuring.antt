@@ -1,7 +1,10 @@
 -- Step 4: the counts of measuring, t, u, w, the windows, the speed of measured second 1 and whether the speed has held.
-use Rattle.std.specs.Prelude.{ℕ, Bool, true, false, not, ◌&&◌, ◌||◌, ltb, eqb}
+use Rattle.std.specs.Prelude.{ℕ, Bool, true, false, ◌&&◌, ◌||◌, leb, ltb, eqb}
 use Rattle.refusal.specs.Choice.{pick}
 use Rattle.attempt.specs.declared.MeasuringCounts.{MeasuringCounts}
+use Rattle.attempt.specs.declared.WindowCounts.{WindowCounts}
+use Rattle.attempt.specs.declared.WindowOutcome.{WindowOutcome}
+use Rattle.attempt.specs.declared.WindowOutcome.TheVariants.{Passing, Failing, Invalid}
 use Rattle.attempt.specs.Counting.{bump, in_row, in_all}
 use Rattle.attempt.specs.Speeds.{held_at}
 
@@ -11,7 +14,7 @@ no_measuring = record {
   seconds = 0;
   row = 0;
   all = 0;
-  windows = record { passing = 0; failing = 0 };
+  windows = record { passing = 0; failing = 0; invalid = 0 };
   first = 0;
   held = true;
   kept = false;
@@ -35,15 +38,26 @@ tallied out speed k = record k {
   held = still_held (bump k.seconds) (first_speed (bump k.seconds) speed k.first) speed k.held;
 }
 
--- "a valid one passes if all three gases pass, else fails"; it is the last valid window.
-unfoldable pub window_counted : Bool → MeasuringCounts → MeasuringCounts
-window_counted passes k = record k {
-  windows = record {
-    passing = in_all passes k.windows.passing;
-    failing = in_all (not passes) k.windows.failing;
-  };
-  kept = true;
-}
+-- A valid window passes or fails; "Carry the invalid windows as a third count" (document 02, A.8).
+unfoldable pub one_more : WindowOutcome → WindowCounts → WindowCounts
+one_more Passing w = record w { passing = bump w.passing }
+one_more Failing w = record w { failing = bump w.failing }
+one_more Invalid w = record w { invalid = bump w.invalid }
+
+-- Whether there is a last valid window, after one more.
+unfoldable pub kept_with : WindowOutcome → Bool → Bool
+kept_with Passing kept = true
+kept_with Failing kept = true
+kept_with Invalid kept = kept
+
+-- "from t = 10, the window ending here": before it none ends.
+abbrev pub window_ends : ℕ → Bool
+window_ends t = leb 10 t
+
+-- The window that ends with a measured second is counted; a valid one is the last valid window.
+unfoldable pub window_counted : WindowOutcome → MeasuringCounts → MeasuringCounts
+window_counted x k =
+    pick (window_ends k.seconds) (record k { windows = one_more x k.windows; kept = kept_with x k.kept }) k
 
 -- "At u = 3 or w = 6"
 abbrev pub restarts : MeasuringCounts → Bool

@@ -1,19 +1,16 @@
--- The seconds of measuring in an attempt, newest first, and what the counts take of them one by one.
+-- The seconds of measuring in an attempt, newest first, as the counts take them one by one.
 use Rattle.std.specs.Prelude.{ℕ, Bool, ◌||◌, List, [], ◌∷◌, map, eqb}
 use Rattle.refusal.specs.Choice.{pick}
 use Rattle.attempt.specs.declared.MeasuringCounts.{MeasuringCounts}
+use Rattle.attempt.specs.declared.WindowOutcome.{WindowOutcome}
 use Rattle.attempt.specs.Counting.{row_of, all_of}
 use Rattle.attempt.specs.Measuring.{no_measuring, tallied, window_counted, restarted}
 
--- A second of measuring: whether it is out, and its speed.
+-- A second of measuring: whether it is out, its speed, and what the ten seconds that end with it are as a window, where one ends.
 pub record Driven : Type 0 where
   pub out : Bool
   pub speed : ℕ
-
--- What the counts take: a second, or a valid window, which passes or not.
-pub data Taken : Type 0 where
-  a_second : Driven → Taken
-  a_window : Bool → Taken
+  pub window : WindowOutcome
 
 -- Which of these seconds are out.
 abbrev pub outs : List Driven → List Bool
@@ -28,13 +25,11 @@ unfoldable pub restarts_at : List Driven → Bool
 restarts_at run = eqb (row_of (outs run)) 3 || eqb (all_of (outs run)) 6
 
 -- The seconds of this t: those since measuring began or, at u = 3 or w = 6, began anew.
-unfoldable pub run_of : List Taken → List Driven
+unfoldable pub run_of : List Driven → List Driven
 run_of [] = []
-run_of (a_second s ∷ l) = pick (restarts_at (s ∷ run_of l)) [] (s ∷ run_of l)
-run_of (a_window passes ∷ l) = run_of l
+run_of (s ∷ l) = pick (restarts_at (s ∷ run_of l)) [] (s ∷ run_of l)
 
--- The counts after all of it.
-unfoldable pub counts_after : List Taken → MeasuringCounts
+-- The counts after all of them.
+unfoldable pub counts_after : List Driven → MeasuringCounts
 counts_after [] = no_measuring
-counts_after (a_second s ∷ l) = restarted (tallied s.out s.speed (counts_after l))
-counts_after (a_window passes ∷ l) = window_counted passes (counts_after l)
+counts_after (s ∷ l) = window_counted s.window (restarted (tallied s.out s.speed (counts_after l)))

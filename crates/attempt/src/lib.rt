@@ -18,7 +18,17 @@ ghost use Rattle.attempt.specs.Settling.{
   second_two,
 };
 ghost use Rattle.attempt.specs.Ending.{at_ninety, ending_rule};
-ghost use Rattle.attempt.specs.Measuring.{first_speed, still_held, tallied, window_counted, restarts, restarted};
+ghost use Rattle.attempt.specs.Measuring.{
+  first_speed,
+  still_held,
+  tallied,
+  one_more,
+  kept_with,
+  window_ends,
+  window_counted,
+  restarts,
+  restarted,
+};
 ghost use Rattle.attempt.specs.Laws.{
   ScreenedExactly,
   SixHundred,
@@ -26,6 +36,7 @@ ghost use Rattle.attempt.specs.Laws.{
   NextMost,
   HeldExactly,
   HeldMore,
+  OneWindowMore,
   CountsTold,
   RuledExactly,
 };
@@ -42,11 +53,20 @@ pub struct SettlingCounts {
     pub all: u8,
 }
 
-// Valid windows that pass and that fail.
+// Valid windows that pass and that fail, and windows that are not valid.
 #[derive(Clone, Copy, Debug, Default, PartialEq, Eq)]
 pub struct WindowCounts {
     pub passing: u8,
     pub failing: u8,
+    pub invalid: u8,
+}
+
+// What the window that ends with a measured second is.
+#[derive(Clone, Copy, Debug, PartialEq, Eq)]
+pub enum WindowOutcome {
+    Passing,
+    Failing,
+    Invalid,
 }
 
 // Measuring: document 01's t, u, w, the counts of windows, the speed of measured second 1, whether the speeds up to second 10 have held, and
@@ -70,6 +90,7 @@ pub const NO_MEASURING: MeasuringCounts = MeasuringCounts {
     windows: WindowCounts {
         passing: 0,
         failing: 0,
+        invalid: 0,
     },
     first: 0,
     held: true,
@@ -290,21 +311,58 @@ pub fn tallied(out: bool, speed: u16, k: MeasuringCounts) -> MeasuringCounts
     }
 }
 
-// A valid window counted, and kept.
-// Ruled out: a window counted as passing and as failing, and one not kept.
-#[tactic(auto, unfolding(crate::specs::Measuring::window_counted))]
-pub fn window_counted(passes: bool, k: MeasuringCounts) -> MeasuringCounts
-    ensures { result ≡ window_counted passes k }
+#[tactic(auto, unfolding(crate::specs::Measuring::one_more))]
+fn one_more(x: WindowOutcome, w: WindowCounts) -> WindowCounts
+    ensures { result ≡ one_more x w }
 {
-    let windows = WindowCounts {
-        passing: in_all(passes, k.windows.passing),
-        failing: in_all(!passes, k.windows.failing),
-    };
-    MeasuringCounts {
-        windows,
-        kept: true,
-        ..k
+    match x {
+        WindowOutcome::Passing => WindowCounts {
+            passing: bump(w.passing),
+            ..w
+        },
+        WindowOutcome::Failing => WindowCounts {
+            failing: bump(w.failing),
+            ..w
+        },
+        WindowOutcome::Invalid => WindowCounts {
+            invalid: bump(w.invalid),
+            ..w
+        },
     }
+}
+
+#[tactic(auto, unfolding(crate::specs::Measuring::kept_with))]
+fn kept_with(x: WindowOutcome, kept: bool) -> bool
+    ensures { result ≡ kept_with x kept }
+{
+    match x {
+        WindowOutcome::Passing | WindowOutcome::Failing => true,
+        WindowOutcome::Invalid => kept,
+    }
+}
+
+// Whether a window ends at this t.
+// Ruled out: a window of nine seconds, and none at t = 10.
+pub fn window_ends(t: u8) -> bool
+    ensures { result ≡ window_ends t }
+{
+    10 <= t
+}
+
+// The window that ends with a measured second, counted; a valid one is kept.
+// Ruled out: a window counted at t = 9, an invalid one left out of the counts, and a valid one not kept.
+#[tactic(auto, using(crate::proofs::Windows::one_window_more, crate::proofs::Runs::counts_told), unfolding(crate::specs::Measuring::window_counted, refusal::specs::Choice::pick))]
+pub fn window_counted(x: WindowOutcome, k: MeasuringCounts) -> MeasuringCounts
+    ensures { (result ≡ window_counted x k) × OneWindowMore × CountsTold }
+{
+    if window_ends(k.seconds) {
+        return MeasuringCounts {
+            windows: one_more(x, k.windows),
+            kept: kept_with(x, k.kept),
+            ..k
+        };
+    }
+    k
 }
 
 // Whether measuring begins anew: u = 3 or w = 6.

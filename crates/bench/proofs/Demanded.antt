@@ -5,6 +5,8 @@ use mathlib.Core.Path.{◌≡◌, refl, ap, sym, ◌∙◌, subst, subst⁻¹}
 use mathlib.Core.List.{List, [], ◌∷◌}
 use Rattle.std.specs.Prelude.{Some, Ok, None, Option}
 use Rattle.vehicle.specs.Checked.{vehicle_of}
+use Rattle.attempt.specs.Laws.{Accounted}
+use Rattle.loaded_test.specs.declared.Verdict.{Verdict}
 use Rattle.loaded_test.specs.declared.Test.{Test}
 use Rattle.loaded_test.specs.Laws.{Bounded as TestBounded}
 use Rattle.loaded_test.proofs.Passing.{bounded as test-within}
@@ -26,7 +28,7 @@ use Rattle.bench.proofs.Sound.{Follows, Runs, Sound}
 use Rattle.bench.proofs.Tied.{tied}
 use Rattle.bench.proofs.Kept.{kept}
 use Rattle.bench.proofs.Decided.{accepted_exactly, refused_exactly, admitted_exactly, verdicts_exactly}
-use Rattle.bench.proofs.Earning.{earned_pass}
+use Rattle.bench.proofs.Earning.{earned_pass, verdict_accounted}
 
 fresh_sound : (limit : ℕ) → Sound limit fresh_history
 unfolding unsent_in since verdicts_in
@@ -72,16 +74,27 @@ module _ (validity limit : ℕ) (fit : limit ≤ 255) where
   follows : (l : List Accepted) (o : Option Test) (t : Test) → o ≡ Some t → Runs limit l o → Follows l t
   follows l o t h r = (subst (Runs limit l) h r).2
 
+  given : (es : List Event) (e : Event) (x : Verdict) → answer_after validity limit es e ≡ Ok (Some x) → Gives (history_of validity limit es) e x
+  given es e x a = ((verdicts_exactly validity limit (history_of validity limit es) e x).0 (sym (told es e) ∙ a)).1
+
   passes_earned :
-      (es : List Event) (e : Event) (t passing failing : ℕ) →
-      answer_after validity limit es e ≡ Ok (Some (pass t passing failing)) →
-      PassEarned (history_of validity limit es).events e t passing failing
-  passes_earned es e t passing failing a =
+      (es : List Event) (e : Event) (t passing failing invalid : ℕ) →
+      answer_after validity limit es e ≡ Ok (Some (pass t passing failing invalid)) →
+      PassEarned (history_of validity limit es).events e t passing failing invalid
+  passes_earned es e t passing failing invalid a =
       let h : History = history_of validity limit es in
-      let g : Gives h e (pass t passing failing) =
-      ((verdicts_exactly validity limit h e (pass t passing failing)).0 (sym (told es e) ∙ a)).1 in
-      earned_pass h.events e g.test g.input g.did t passing failing
+      let g : Gives h e (pass t passing failing invalid) = given es e _ a in
+      earned_pass h.events e g.test g.input g.did t passing failing invalid
       (follows h.events h.test g.test g.running (sound es).test) g.given g.told
+
+  pub all_accounted :
+      (es : List Event) (e : Event) (x : Verdict) →
+      answer_after validity limit es e ≡ Ok (Some x) →
+      Accounted x.t x.passing x.failing x.invalid
+  all_accounted es e x a =
+      let h : History = history_of validity limit es in
+      let g : Gives h e x = given es e x a in
+      verdict_accounted h.events g.test g.input g.did x (follows h.events h.test g.test g.running (sound es).test) g.told
 
   -- Demand 3.
   pub demanded : Demand3 validity limit

@@ -10,13 +10,16 @@ use Rattle.reading.specs.Units.{second_of}
 use Rattle.vehicle.specs.declared.Settings.{Settings}
 use Rattle.vehicle.specs.declared.Vehicle.{Vehicle}
 use Rattle.vehicle.specs.Checked.{vehicle_of}
+use Rattle.attempt.specs.Laws.{Accounted}
 use Rattle.loaded_test.specs.declared.Verdict.{Verdict}
 use Rattle.loaded_test.specs.declared.Did.{Did}
+use Rattle.loaded_test.specs.declared.Next.{Next}
 use Rattle.loaded_test.specs.declared.Next.TheVariants.{Ends}
 use Rattle.loaded_test.specs.declared.Test.{Test}
 use Rattle.loaded_test.specs.Log.{Input, a_second, Entry, step, replay, logged, log_of}
 use Rattle.loaded_test.specs.Claim.{Measures, more as measuresMore, Earned, PassClaim}
-use Rattle.loaded_test.proofs.Passing.{passes}
+use Rattle.loaded_test.specs.Laws.{AccountedClaim}
+use Rattle.loaded_test.proofs.Passing.{passes, accounted_all}
 use Rattle.locks.specs.declared.Event.{Event}
 use Rattle.locks.specs.declared.Event.TheVariants.{Start, Second, Stop}
 use Rattle.locks.proofs.Sorts.{Sort, serves, starts, measures, stops, sort_of}
@@ -60,25 +63,50 @@ newest_reads e verdict auto s ss l h r = go e (sort_of e) h
     go (Second _ _) (measures clock readings) h = before (second_input_lem (second_of readings auto) s h) r
     go (Stop _ _) (stops clock cause) h = cc
 
+-- What a test that follows the accepted events tells of an input is what a test of the start's vehicle tells after the inputs since.
+replayed :
+    (l : List Accepted) (test : Test) (i : Input) (did : Did) (next : Next) (f : Follows l test) →
+    (step test i).answer ≡ Ok (record { did = did; next = next }) →
+    (step (replay (vehicle_of f.settings f.saturation) (inputs_since l)) i).answer ≡ Ok (record { did = did; next = next })
+replayed l test i did next f told = subst (λ y. (step y i).answer ≡ Ok (record { did = did; next = next })) f.replayed told
+
+-- It is the newest entry of that test's log.
+newest :
+    (l : List Accepted) (test : Test) (i : Input) (did : Did) (next : Next) (f : Follows l test) →
+    (step test i).answer ≡ Ok (record { did = did; next = next }) →
+    log_of (vehicle_of f.settings f.saturation) (i ∷ inputs_since l) ≡
+    record { input = i; did = did; next = next } ∷ log_of (vehicle_of f.settings f.saturation) (inputs_since l)
+unfolding log_of logged
+newest l test i did next f told = rw (replayed l test i did next f told)
+
+-- The windows of a verdict that it tells are all accounted for.
+pub verdict_accounted :
+    (l : List Accepted) (test : Test) (i : Input) (did : Did) (x : Verdict) →
+    Follows l test →
+    (step test i).answer ≡ Ok (record { did = did; next = Ends x }) →
+    Accounted x.t x.passing x.failing x.invalid
+verdict_accounted l test i did x f told =
+    subst AccountedClaim (newest l test i did (Ends x) f told)
+    (accounted_all (vehicle_of f.settings f.saturation) (i ∷ inputs_since l)) x refl
+
 -- A pass told by a test that follows the accepted events is earned by them.
 pub earned_pass :
-    (l : List Accepted) (e : Event) (test : Test) (i : Input) (did : Did) (t passing failing : ℕ) →
+    (l : List Accepted) (e : Event) (test : Test) (i : Input) (did : Did) (t passing failing invalid : ℕ) →
     Follows l test →
     input_of (automatic_in l) e ≡ Some i →
-    (step test i).answer ≡ Ok (record { did = did; next = Ends (pass t passing failing) }) →
-    PassEarned l e t passing failing
-unfolding log_of logged
-earned_pass l e test i did t passing failing f given told = record {
+    (step test i).answer ≡ Ok (record { did = did; next = Ends (pass t passing failing invalid) }) →
+    PassEarned l e t passing failing invalid
+earned_pass l e test i did t passing failing invalid f given told = record {
   settings = f.settings;
   saturation = f.saturation;
   fit = f.fit;
   since = f.since;
   entry = entry;
-  told = told';
+  told = replayed l test i did _ f told;
   ends = refl;
   earned = earned;
   seconds =
-      newest_reads e (Some (pass t passing failing)) (automatic f.settings) earned.last earned.before l
+      newest_reads e (Some (pass t passing failing invalid)) (automatic f.settings) earned.last earned.before l
       (subst (λ b. input_of b e ≡ Some (a_second earned.last)) f.gearbox (given ∙ ap Some earned.is_second))
       (reads f.settings f.saturation earned.before l (log_of v (inputs_since l)) earned.measured f.since);
 }
@@ -87,13 +115,7 @@ earned_pass l e test i did t passing failing f given told = record {
     v = vehicle_of f.settings f.saturation
 
     entry : Entry
-    entry = record { input = i; did = did; next = Ends (pass t passing failing) }
+    entry = record { input = i; did = did; next = Ends (pass t passing failing invalid) }
 
-    told' : (step (replay v (inputs_since l)) i).answer ≡ Ok (record { did = did; next = Ends (pass t passing failing) })
-    told' = subst (λ y. (step y i).answer ≡ Ok (record { did = did; next = Ends (pass t passing failing) })) f.replayed told
-
-    newest : log_of v (i ∷ inputs_since l) ≡ entry ∷ log_of v (inputs_since l)
-    newest = rw told'
-
-    earned : Earned v entry (log_of v (inputs_since l)) t passing failing
-    earned = subst (PassClaim v) newest (passes v (i ∷ inputs_since l)) t passing failing refl
+    earned : Earned v entry (log_of v (inputs_since l)) t passing failing invalid
+    earned = subst (PassClaim v) (newest l test i did _ f told) (passes v (i ∷ inputs_since l)) t passing failing invalid refl

@@ -30,7 +30,7 @@ use Rattle.bench.proofs.Firsts.{clock_exactly, locked_least}
 use Rattle.bench.proofs.Coasting.{run_answered, in_test}
 use Rattle.bench.proofs.Preparing.{prepare_answered}
 use Rattle.bench.proofs.Decided.{refused_exactly}
-use Rattle.bench.proofs.Demanded.{told, demanded, bounded}
+use Rattle.bench.proofs.Demanded.{told, all_accounted, demanded, bounded}
 
 fresh_read : FromEvents fresh_history
 unfolding last_clock test_in since latest_of replayed_from
@@ -70,6 +70,7 @@ module _ (validity limit : ℕ) (fit : limit ≤ 255) where
     coast_down_in_test = λ es clock run test order running. told validity limit fit es (CoastDown clock run) ∙ in_test validity limit (history_of validity limit es) (CoastDown clock run) refl order test running;
     prepare = λ es clock check order idle. rw (told validity limit fit es (Prepare clock check)) (prepare_answered validity limit (history_of validity limit es) clock check order idle);
     prepare_in_test = λ es clock check test order running. told validity limit fit es (Prepare clock check) ∙ in_test validity limit (history_of validity limit es) (Prepare clock check) refl order test running;
+    accounted = all_accounted validity limit fit;
     split = λ es e fs. split (fresh_bench validity limit) es e fs;
     test = λ es. (read es).test;
   }

@@ -8,7 +8,7 @@ use Rattle.bench.specs.Stepping.{fresh_bench, opened_of}
 use Rattle.bench.specs.Demand.{bench_after, Demand3}
 use Rattle.bench.specs.Laws.{Laws}
 
--- The greatest counts: no counter of the test is at its cap, wrong tries are held at the four that lock, unsent verdicts are at most U.
+-- The greatest counts, and the windows of the test: no counter of the test is at its cap, wrong tries are held at the four that lock, unsent verdicts are at most U.
 pub record Bounded (limit : ℕ) (b : Bench) : Type 0 where
   pub wrong : b.desk.locks.security.wrong ≤ 4
   pub unsent : b.desk.locks.unsent ≤ limit

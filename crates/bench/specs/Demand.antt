@@ -98,6 +98,6 @@ pub record Demand3 (validity limit : ℕ) : Type 0 where
       (NoneStand (causes validity limit (history_of validity limit es) e) × Gives (history_of validity limit es) e x)
   -- a pass answered anywhere in the list is earned by the accepted seconds before it
   pub passes :
-      (es : List Event) (e : Event) (t passing failing : ℕ) →
-      answer_after validity limit es e ≡ Ok (Some (pass t passing failing)) →
-      PassEarned (history_of validity limit es).events e t passing failing
+      (es : List Event) (e : Event) (t passing failing invalid : ℕ) →
+      answer_after validity limit es e ≡ Ok (Some (pass t passing failing invalid)) →
+      PassEarned (history_of validity limit es).events e t passing failing invalid

@@ -18,8 +18,8 @@ use Rattle.locks.specs.Accepted.{Accepted, accepted}
 use Rattle.bench.specs.Running.{inputs_since}
 
 -- A pass with its t and its counts of windows.
-abbrev pub pass : ℕ → ℕ → ℕ → Verdict
-pass t passing failing = record { word = Pass; t = t; passing = passing; failing = failing }
+abbrev pub pass : ℕ → ℕ → ℕ → ℕ → Verdict
+pass t passing failing invalid = record { word = Pass; t = t; passing = passing; failing = failing; invalid = invalid }
 
 -- The latest accepted events are seconds and stops since an accepted start with these settings and this p, none of them with a
 -- verdict; the entries of the log are one for each of them, a second's with the units of its own readings.
@@ -46,8 +46,8 @@ pub data Reads (auto : Bool) : List Units → List Accepted → Type 0 where
       Reads auto ss l →
       Reads auto (s ∷ ss) (accepted (Second clock readings) verdict ∷ l)
 
--- A pass (t, passing, failing) answered to an event after these accepted events.
-pub record PassEarned (l : List Accepted) (e : Event) (t passing failing : ℕ) : Type 0 where
+-- A pass (t, passing, failing, invalid) answered to an event after these accepted events.
+pub record PassEarned (l : List Accepted) (e : Event) (t passing failing invalid : ℕ) : Type 0 where
   -- an accepted start with no verdict or power-on since: its settings and its p, read from the list, are fit
   pub settings : Settings
   pub saturation : ℕ
@@ -57,10 +57,10 @@ pub record PassEarned (l : List Accepted) (e : Event) (t passing failing : ℕ) 
   -- what they tell of this event
   pub entry : Entry
   pub told : (step (replay (vehicle_of settings saturation) (inputs_since l)) entry.input).answer ≡ Ok (record { did = entry.did; next = entry.next })
-  pub ends : entry.next ≡ Ends (pass t passing failing)
+  pub ends : entry.next ≡ Ends (pass t passing failing invalid)
   -- t, the attempt, the seconds' cleanness, the ending rule and the counts of windows
   pub earned :
-      Earned (vehicle_of settings saturation) entry (log_of (vehicle_of settings saturation) (inputs_since l)) t passing failing
+      Earned (vehicle_of settings saturation) entry (log_of (vehicle_of settings saturation) (inputs_since l)) t passing failing invalid
   -- those seconds are the last t accepted events, this one included, by their own readings
   pub seconds :
-      Reads (automatic settings) (earned.last ∷ earned.before) (accepted e (Some (pass t passing failing)) ∷ l)
+      Reads (automatic settings) (earned.last ∷ earned.before) (accepted e (Some (pass t passing failing invalid)) ∷ l)

@@ -12,17 +12,18 @@ fn word(w: Word) -> &'static str {
     }
 }
 
-// "ok", and of a verdict the word, t, passing and failing; or the refusal.
+// "ok", and of a verdict the word, t, passing, failing and invalid; or the refusal.
 pub(crate) fn line(output: &mut impl Write, answer: Answer) -> io::Result<()> {
     match answer {
         Ok(None) => writeln!(output, "ok"),
         Ok(Some(x)) => writeln!(
             output,
-            "ok {} {} {} {}",
+            "ok {} {} {} {} {}",
             word(x.word),
             x.t,
             x.passing,
-            x.failing
+            x.failing,
+            x.invalid
         ),
         Err(r) => writeln!(output, "{r}"),
     }

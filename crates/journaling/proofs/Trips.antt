@@ -19,16 +19,12 @@ use Rattle.journaling.specs.Writing.{judge_content, space_check, written_as, wri
 use Rattle.journaling.specs.Claims.{Allowed, IsRead, IsWritten, ReadWrite, WriteRead, ReadIfWritten, Answers, OutputKept}
 use Rattle.journaling.proofs.Counted.{counted}
 use Rattle.journaling.proofs.EventLaws.{on_must, JournalTaken, journal_taken, journal_again}
-use Rattle.journaling.proofs.Written.{whole_as, whole_leaves}
+use Rattle.journaling.proofs.Written.{few, whole_as, whole_leaves}
 
 -- A content of fit V and U and at most 1,700 events is refused by nothing but the space.
 judged_fine : (x : Content) → parameters_fit x.validity x.limit ≡ true → length x.entries ≤ 1700 → judge_content x ≡ fine
 unfolding judge_content
 judged_fine x fit few = after_fine (need_holds _ fit) ∙ need_holds _ (le-leb _ _ few)
-
-judged_few : (x : Content) → judge_content x ≡ fine → length x.entries ≤ 1700
-unfolding judge_content
-judged_few x j = leb-true _ _ (need_true _ _ (fine_second _ _ j))
 
 judged_fit : (x : Content) → judge_content x ≡ fine → parameters_fit x.validity x.limit ≡ true
 unfolding judge_content
@@ -66,7 +62,7 @@ write_read x out held e =
     let front : take (length (journal_bytes x)) (written_output x out) ≡ journal_bytes x =
     ap (take (length (journal_bytes x))) left ∙ take_at (journal_bytes x) (drop (0 + length (journal_bytes x)) out) (length (journal_bytes x)) refl
     in
-    ap journal_of front ∙ journal_again x held (judged_fit x w.judged) (judged_few x w.judged)
+    ap journal_of front ∙ journal_again x held (judged_fit x w.judged) (few x w.judged)
 
 pub read_if_written : ReadIfWritten
 read_if_written s x fits = (
@@ -77,7 +73,7 @@ read_if_written s x fits = (
       (t.held, go s size j, t.bytes)),
   (λ w.
       let k : WasWritten (length s) x = was_written (length s) (length (journal_bytes x)) x w.1 in
-      ap journal_of (sym w.2) ∙ journal_again x w.0 (judged_fit x k.judged) (judged_few x k.judged)),
+      ap journal_of (sym w.2) ∙ journal_again x w.0 (judged_fit x k.judged) (few x k.judged)),
 )
   where
     go : (s : List ℕ) → length (journal_bytes x) ≡ length s → judge_content x ≡ fine → IsWritten (length s) x

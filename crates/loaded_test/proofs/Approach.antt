@@ -32,7 +32,7 @@ use Rattle.loaded_test.specs.Settling.{measuring_from, settling_left, closed_one
 use Rattle.loaded_test.specs.Log.{Entry, Input}
 use Rattle.loaded_test.specs.Claim.{mode_after, mode_in, begins, voids, InAttempt, begun, goes_on, none, no_second, attempt_in}
 use Rattle.attempt.specs.Speeds.{speed_at, first_ten, all_held, speed_held}
-use Rattle.loaded_test.specs.Windows.{out_row, longest_out, out_all, passing_in, failing_in}
+use Rattle.loaded_test.specs.Windows.{out_row, longest_out, out_all, passing_in, failing_in, invalid_in}
 use Rattle.loaded_test.specs.Sheet.{t_going, t_after, run_in}
 use Rattle.loaded_test.proofs.Runs.{oldest_none}
 use Rattle.loaded_test.specs.Laws.{void_added, voids_kept, voids_in}
@@ -107,7 +107,7 @@ module _ (v : Vehicle) (i : Input) (log : List Entry) (last : List window.Measur
       InAttempt log →
       Counts (i ∷ attempt_in log) p.counted →
       Good v i log last (turn MeasuringBegan GoesOn (measuring_from p))
-  unfolding voids tally_of out_row longest_out out_all row_of all_of passing_in failing_in speed_at first_ten all_held speed_held some_valid run_in t_after t_going
+  unfolding voids tally_of out_row longest_out out_all row_of all_of passing_in failing_in invalid_in speed_at first_ten all_held speed_held some_valid run_in t_after t_going
   began_good p told bounds least attempt counting = record {
     stage = record {
       told = told_on i log MeasuringBegan refl told;

@@ -12,7 +12,7 @@ use Rattle.loaded_test.specs.Going.{is_running}
 use Rattle.loaded_test.specs.Steps.{cause_fit}
 use Rattle.loaded_test.specs.Log.{Input, a_second, a_stop, step}
 use Rattle.loaded_test.specs.Claims.{TestClaims}
-use Rattle.loaded_test.proofs.Passing.{passes, voids_followed, incomplete_only, fails_only, bounded, last_ten_lem}
+use Rattle.loaded_test.proofs.Passing.{passes, voids_followed, incomplete_only, fails_only, accounted_all, bounded, last_ten_lem}
 use Rattle.loaded_test.proofs.Shown.{sheet_told, present_shown}
 use Rattle.loaded_test.proofs.Going.{second_goes, stop_goes, stop_refused_lem, second_idle, stop_idle}
 use Rattle.loaded_test.proofs.Examples.{passes_36, open_35}
@@ -37,6 +37,7 @@ test_claims = record {
   void = voids_followed;
   incomplete = incomplete_only;
   fail = fails_only;
+  accounted = accounted_all;
   bounded = bounded;
   last_ten = last_ten_lem;
   sheet = sheet_told;

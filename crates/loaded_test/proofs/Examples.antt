@@ -16,24 +16,24 @@ use Rattle.attempt.specs.Screening.{screened}
 use Rattle.attempt.specs.Ready.{ready}
 use Rattle.attempt.specs.Settling.{begun_anew, watched, settled_one, second_one}
 use Rattle.attempt.specs.Ending.{early_pass, ending_rule}
-use Rattle.attempt.specs.Measuring.{first_speed, tallied, window_counted}
+use Rattle.attempt.specs.Measuring.{first_speed, tallied, one_more, kept_with, window_counted}
 use Rattle.loaded_test.specs.declared.Word.TheVariants.{Pass}
 use Rattle.loaded_test.specs.declared.Next.TheVariants.{GoesOn, Ends}
 use Rattle.loaded_test.specs.Voids.{step_five}
 use Rattle.loaded_test.specs.Settling.{settling_left, closed_one, settles_in, settles}
-use Rattle.loaded_test.specs.Measuring.{closed, concluded, window_taken, window_judged, window_kept, judged, measures}
+use Rattle.loaded_test.specs.Measuring.{closed, concluded, window_taken, outcome_of, window_judged, window_kept, judged, measures}
 use Rattle.loaded_test.specs.Steps.{measured, in_attempt, second_at, second}
 use Rattle.loaded_test.specs.Log.{a_second, replay, logged, log_of}
 use Rattle.loaded_test.specs.Examples.{motorcycle, row, newest}
 
 pub passes_36 :
     newest (log_of motorcycle (replicate 36 (a_second row))) ≡
-    Ends (record { word = Pass; t = 25; passing = 16; failing = 0 })
+    Ends (record { word = Pass; t = 25; passing = 16; failing = 0; invalid = 0 })
 unfolding
     pick half_up k_h limits_for row_up_to displacement_bounds loads load_for target_for vehicle_of
     dcf_of aim_of in_tolerance second_out second_steady measured_of window_valid sum_of sum_no window_passes in_row in_all screened
-    ready begun_anew watched settled_one second_one early_pass ending_rule first_speed tallied window_counted step_five settling_left
-    closed_one settles_in settles closed concluded window_taken window_judged window_kept judged measures in_attempt second_at measured
+    ready begun_anew watched settled_one second_one early_pass ending_rule first_speed tallied one_more kept_with window_counted step_five settling_left
+    closed_one settles_in settles closed concluded window_taken outcome_of window_judged window_kept judged measures in_attempt second_at measured
     second replay logged log_of
 passes_36 = refl
 
@@ -42,7 +42,7 @@ pub open_35 : newest (log_of motorcycle (replicate 35 (a_second row))) ≡ GoesO
 unfolding
     pick half_up k_h limits_for row_up_to displacement_bounds loads load_for target_for vehicle_of
     dcf_of aim_of in_tolerance second_out second_steady measured_of window_valid sum_of sum_no window_passes in_row in_all screened
-    ready begun_anew watched settled_one second_one early_pass ending_rule first_speed tallied window_counted step_five settling_left
-    closed_one settles_in settles closed concluded window_taken window_judged window_kept judged measures in_attempt second_at measured
+    ready begun_anew watched settled_one second_one early_pass ending_rule first_speed tallied one_more kept_with window_counted step_five settling_left
+    closed_one settles_in settles closed concluded window_taken outcome_of window_judged window_kept judged measures in_attempt second_at measured
     second replay logged log_of
 open_35 = refl

@@ -20,11 +20,11 @@ use Rattle.loaded_test.specs.declared.Turn.{Turn}
 use Rattle.loaded_test.specs.declared.Test.{Test}
 use Rattle.loaded_test.specs.declared.Stepped.{Stepped}
 use Rattle.attempt.specs.Speeds.{speed_at, speed_held}
-use Rattle.loaded_test.specs.Windows.{out_row, longest_out, out_all, valid_here, passing_in, failing_in, speeds_of}
+use Rattle.loaded_test.specs.Windows.{out_row, longest_out, out_all, valid_here, passing_in, failing_in, invalid_in, speeds_of}
 use Rattle.loaded_test.specs.Log.{Entry, Input, logged}
 use Rattle.loaded_test.specs.Claim.{mode_in, InAttempt, Measures, AllClean, attempt_in, NotYetIn, PassClaim}
 use Rattle.loaded_test.specs.Sheet.{run_in}
-use Rattle.loaded_test.specs.Laws.{Bounded, voids_in, nines_in, VoidClaim, IncompleteClaim, FailClaim}
+use Rattle.loaded_test.specs.Laws.{Bounded, voids_in, nines_in, VoidClaim, IncompleteClaim, FailClaim, AccountedClaim}
 use Rattle.loaded_test.proofs.Counting.{Counts}
 
 -- The last n of settling before it ends.
@@ -56,7 +56,7 @@ pub record Open (p : Progress) : Type 0 where
   pub measured : p.measuring.seconds ≤ 89
   pub out_row : p.measuring.row ≤ 2
   pub out_all : p.measuring.all ≤ 5
-  pub windows : p.measuring.windows.passing + p.measuring.windows.failing ≤ p.measuring.seconds - 9
+  pub windows : p.measuring.windows.passing + p.measuring.windows.failing + p.measuring.windows.invalid ≡ p.measuring.seconds - 9
 
 -- Whether a run has a valid window.
 unfoldable pub some_valid : Vehicle → Mode → List Second → Bool
@@ -69,7 +69,7 @@ tally_of v mode l = record {
   seconds = length l;
   row = out_row v mode l;
   all = out_all v mode l;
-  windows = record { passing = passing_in v mode l; failing = failing_in v mode l };
+  windows = record { passing = passing_in v mode l; failing = failing_in v mode l; invalid = invalid_in v mode l };
   first = speed_at 1 (speeds_of l);
   held = speed_held (speeds_of l);
   kept = some_valid v mode l;
@@ -119,6 +119,7 @@ pub record Claims (v : Vehicle) (log : List Entry) : Type 0 where
   pub void : VoidClaim log
   pub incomplete : IncompleteClaim log
   pub fail : FailClaim log
+  pub accounted : AccountedClaim log
 
 abbrev pub entry : Input → Turn → Entry
 entry i x = record { input = i; did = x.told.did; next = x.told.next }

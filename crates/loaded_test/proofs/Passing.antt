@@ -31,7 +31,7 @@ use Rattle.loaded_test.specs.Steps.{counted, measured, settled, in_attempt, seco
 use Rattle.loaded_test.specs.Windows.{window_of}
 use Rattle.loaded_test.specs.Log.{Entry, Input, a_second, a_stop, step, replay, logged, log_of}
 use Rattle.loaded_test.specs.Claim.{mode_in, Measures, voids, Clean, at_start, goes_on, attempt_in, PassClaim}
-use Rattle.loaded_test.specs.Laws.{Bounded, voids_in, nines_in, VoidClaim, IncompleteClaim, FailClaim, LastTen}
+use Rattle.loaded_test.specs.Laws.{Bounded, voids_in, nines_in, VoidClaim, IncompleteClaim, FailClaim, AccountedClaim, LastTen}
 use Rattle.loaded_test.proofs.Counting.{Counts, none_counted, attempt_goes, waits_on, counts_on}
 use Rattle.loaded_test.proofs.Holding.{most_settling, settling_most, Told, Open, Settles, Runs, AtStage, Good, entry, Stands, Kept}
 use Rattle.loaded_test.proofs.Voiding.{voided_good}
@@ -231,7 +231,7 @@ stands v [] = record {
     attempt = at_start;
     counting = none_counted;
   };
-  claims = record { pass = tt; void = tt; incomplete = tt; fail = tt };
+  claims = record { pass = tt; void = tt; incomplete = tt; fail = tt; accounted = tt };
 }
 stands v (i ∷ l) =
     let h : Stands v (log_of v l) (replay v l) = stands v l in
@@ -254,6 +254,10 @@ incomplete_only v l = (stands v l).claims.incomplete
 pub fails_only : (v : Vehicle) (l : List Input) → FailClaim (log_of v l)
 fails_only v l = (stands v l).claims.fail
 
+-- In every verdict passing, failing and invalid are t − 9.
+pub accounted_all : (v : Vehicle) (l : List Input) → AccountedClaim (log_of v l)
+accounted_all v l = (stands v l).claims.accounted
+
 stage_bounded :
     (v : Vehicle) (log : List Entry) (st : Stage) (p : Progress) (last : List Measured) → AtStage st v log p last → Bounded p
 stage_bounded v log NotBegun p last h = absurd h
@@ -262,7 +266,7 @@ stage_bounded v log Measuring p last h = open_bounded p h.bounds h.told.voids_le
 stage_bounded v log Rest p last h = open_bounded p h.bounds h.told.voids_left h.told.nines_left
 stage_bounded v log (Ended w) p last h = h
 
--- c ≤ 145, t ≤ 90, r ≤ 3, q ≤ 2, no counter at its cap; passing plus failing is 0 before t = 10 and from there at most t − 9.
+-- c ≤ 145, t ≤ 90, r ≤ 3, q ≤ 2, no counter at its cap; passing, failing and invalid are t − 9 from t = 9 on.
 pub bounded : (v : Vehicle) (l : List Input) → Bounded (replay v l).progress
 bounded v l = stage_bounded v (log_of v l) (replay v l).progress.stage (replay v l).progress (replay v l).last (stands v l).stage
 

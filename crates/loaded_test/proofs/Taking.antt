@@ -1,5 +1,5 @@
 -- A measured second leaves all that holds of a test standing, and a pass is earned. Assumes nothing.
-use Prim.Native.Nat.{ℕ, suc, ◌≤◌, ◌<◌}
+use Prim.Native.Nat.{ℕ, suc, ◌+◌, ◌-◌, ◌≤◌, ◌<◌}
 use native.Mathlib.Omega.{arith}
 use mathlib.Core.Bool.{Bool, true, false}
 use mathlib.Core.Path.{◌≡◌, refl, sym, ap, ◌∙◌, subst, subst⁻¹}
@@ -15,7 +15,6 @@ use Rattle.vehicle.specs.declared.Vehicle.{Vehicle}
 use Rattle.vehicle.specs.declared.Mode.{Mode}
 use Rattle.window.specs.declared.Measured as window
 use Rattle.window.specs.Measuring.{measured_of}
-use Rattle.window.specs.Judging.{window_passes}
 use Rattle.loaded_test.specs.declared.Word.TheVariants.{Pass}
 use Rattle.loaded_test.specs.declared.Verdict.{Verdict}
 use Rattle.loaded_test.specs.declared.Did.TheVariants.{Measured, Restarted, Voided}
@@ -32,11 +31,11 @@ use Rattle.loaded_test.specs.declared.Test.{Test}
 use Rattle.loaded_test.specs.State.{turn, with_counted, with_measuring, stepped, stepped_with}
 use Rattle.loaded_test.specs.Voids.{ended, step_five}
 use Rattle.attempt.specs.Speeds.{speed_at, first_ten, all_held, speed_held, SpeedHeld}
-use Rattle.attempt.specs.Measuring.{no_measuring, tallied, window_counted, restarts}
+use Rattle.attempt.specs.Measuring.{no_measuring, tallied, window_ends, window_counted, restarts}
 use Rattle.attempt.specs.Counting.{row_of, all_of}
 use Rattle.attempt.specs.Laws.{RuleSays}
 use Rattle.loaded_test.specs.Measuring.{closed, concluded, window_taken, window_judged, judged, measures}
-use Rattle.loaded_test.specs.Windows.{out_of, out_row, longest_out, out_all, passing_in, failing_in, speeds_of, ending_of}
+use Rattle.loaded_test.specs.Windows.{out_of, out_row, longest_out, out_all, passing_in, failing_in, invalid_in, speeds_of, ending_of}
 use Rattle.loaded_test.specs.Log.{Entry, Input, a_second, logged}
 use Rattle.loaded_test.specs.Claim.{mode_after, mode_in, voids, InAttempt, goes_on, Measures, none, more, Clean, AllClean, no_second, and_clean, attempt_in, NotYetIn, NotEndedIn}
 use Rattle.loaded_test.specs.Sheet.{t_going, t_after, run_in}
@@ -44,11 +43,11 @@ use Rattle.loaded_test.specs.Laws.{Bounded}
 use Rattle.loaded_test.proofs.Runs.{oldest_none, oldest_more}
 use Rattle.loaded_test.proofs.Counting.{Counts, attempt_goes}
 use Rattle.loaded_test.proofs.Holding.{settling_most, some_valid, tally_of, Told, Open, Running, AtStage, Good, Kept}
-use Rattle.loaded_test.proofs.Voiding.{going_ends_not, same_end, fail_pass, incomplete_pass, silent, mode_ended_lem, voided_good, five_good}
+use Rattle.loaded_test.proofs.Voiding.{Exact, going_ends_not, same_end, fail_pass, incomplete_pass, silent, mode_ended_lem, voided_good, five_good}
 use Rattle.loaded_test.proofs.Approach.{told_on}
 use Rattle.std.proofs.lemmas.Bool.{or_parts}
 use Rattle.attempt.proofs.Most.{row_most, all_most}
-use Rattle.loaded_test.proofs.Tally.{pushed, tally_none, tally_more, windows_most}
+use Rattle.loaded_test.proofs.Tally.{pushed, tally_more, windows_more}
 use Rattle.attempt.proofs.Ruled.{on_ending, ruled_exactly}
 use Rattle.attempt.proofs.Speeds.{held_exactly}
 use Rattle.attempt.proofs.Runs.{restarted_none}
@@ -82,7 +81,7 @@ not_ended_lem : (v : Vehicle) (mode : Mode) (l : List Second) → NotYetIn v mod
 unfolding ending_of
 not_ended_lem v mode [] h = tt
 not_ended_lem v mode (s ∷ l) h =
-    let k : WindowCounts = record { passing = passing_in v mode (s ∷ l); failing = failing_in v mode (s ∷ l) } in
+    let k : WindowCounts = record { passing = passing_in v mode (s ∷ l); failing = failing_in v mode (s ∷ l); invalid = invalid_in v mode (s ∷ l) } in
     let says = subst (RuleSays (length (s ∷ l)) k (speed_held (speeds_of (s ∷ l)))) h.0 (ruled_exactly (length (s ∷ l)) k _) in
     (says.0, λ least enough held. says.1 least enough ((held_exactly _).1 held), not_ended_lem v mode l h.1)
 
@@ -107,6 +106,29 @@ module _
         let b : p.measuring.seconds ≤ 89 = h.bounds.measured in
         omega arith
 
+    -- The counts of the run, from those of the state.
+    before :
+        (out_row v (mode_in log) h.running.run ≤ 2) ×
+        (out_all v (mode_in log) h.running.run ≤ 5) ×
+        (passing_in v (mode_in log) h.running.run + failing_in v (mode_in log) h.running.run + invalid_in v (mode_in log) h.running.run ≡
+        length h.running.run - 9)
+    unfolding tally_of
+    before =
+        let r : p.measuring.row ≡ out_row v (mode_in log) h.running.run = ap (λ (k : MeasuringCounts). k.row) h.running.tally in
+        let a : p.measuring.all ≡ out_all v (mode_in log) h.running.run = ap (λ (k : MeasuringCounts). k.all) h.running.tally in
+        let o = h.bounds in (
+          omega arith,
+          omega arith,
+          subst (λ (k : MeasuringCounts). k.windows.passing + k.windows.failing + k.windows.invalid ≡ k.seconds - 9) h.running.tally o.windows,
+        )
+
+    -- The windows of the run with this second.
+    windows_here :
+        passing_in v (mode_in log) (s ∷ h.running.run) + failing_in v (mode_in log) (s ∷ h.running.run) + invalid_in v (mode_in log) (s ∷ h.running.run) ≡
+        suc (length h.running.run) - 9
+    windows_here =
+        windows_more v (mode_in log) s h.running.run last h.running.old h.running.held short before.0 before.1 before.2
+
     module _
         (row : out_row v (mode_in log) (s ∷ h.running.run) < 3)
         (few : out_all v (mode_in log) (s ∷ h.running.run) < 6)
@@ -115,7 +137,7 @@ module _
         bounded : Bounded (with_measuring (tally_of v (mode_in log) (s ∷ h.running.run)) p)
         unfolding tally_of
         bounded =
-            let w = windows_most v (mode_in log) (s ∷ h.running.run) in
+            let w = windows_here in
             let m = settling_most p.mode in
             let n = short in
             let b = h.bounds in
@@ -142,6 +164,7 @@ module _
             let b = bounded in
             let n = short in
             let o = h.bounds in
+            let w = windows_here in
             record {
               stage =
                   subst⁻¹
@@ -194,10 +217,11 @@ module _
             record {
               stage = omega arith;
               claims = record {
-                pass = λ t passing failing q.
+                pass = λ t passing failing invalid q.
                     let et = ap (λ (x : Verdict). x.t) (same_end q) in
                     let ep = ap (λ (x : Verdict). x.passing) (same_end q) in
                     let ef = ap (λ (x : Verdict). x.failing) (same_end q) in
+                    let ei = ap (λ (x : Verdict). x.invalid) (same_end q) in
                     record {
                       last = s;
                       before = h.running.run;
@@ -217,11 +241,13 @@ module _
                       not_ended = not_ended_lem v (mode_in log) h.running.run h.running.not_yet;
                       passes = sym ep;
                       fails = sym ef;
+                      invalids = sym ei;
                       enough = omega arith;
                     };
                 void = λ n e. absurd (measured_voids_not _ n e);
                 incomplete = λ w. absurd (incomplete_pass (sym (ap (λ (x : Verdict). x.word) (same_end w.1) ∙ w.2)));
                 fail = λ y e w. absurd (fail_pass (sym (ap (λ (x : Verdict). x.word) (same_end e) ∙ w)));
+                accounted = λ y e. subst Exact (same_end e) b.accounted;
               };
             }
 
@@ -237,7 +263,11 @@ module _
             Good v (a_second s) log (take 10 (measured_of v (mode_in log) s ∷ last))
             (closed r (with_measuring (tally_of v (mode_in log) (s ∷ h.running.run)) p)))
             (suc (length h.running.run))
-            (record { passing = passing_in v (mode_in log) (s ∷ h.running.run); failing = failing_in v (mode_in log) (s ∷ h.running.run) })
+            (record {
+              passing = passing_in v (mode_in log) (s ∷ h.running.run);
+              failing = failing_in v (mode_in log) (s ∷ h.running.run);
+              invalid = invalid_in v (mode_in log) (s ∷ h.running.run);
+            })
             (speed_held (speeds_of (s ∷ h.running.run)))
             (λ enough ends e. passes e enough (in_numbers _ (s ∷ h.running.run) ends))
             (λ ninety few' enough e.
@@ -259,7 +289,7 @@ module _
     -- At u = 3 or w = 6 the run is empty again, and the attempt goes on.
     restart_goes :
         p.counted ≤ 144 → Good v (a_second s) log last (turn Restarted GoesOn (with_measuring no_measuring p))
-    unfolding voids tally_of out_row longest_out out_all row_of all_of passing_in failing_in speed_at first_ten all_held speed_held some_valid run_in t_after t_going
+    unfolding voids tally_of out_row longest_out out_all row_of all_of passing_in failing_in invalid_in speed_at first_ten all_held speed_held some_valid run_in t_after t_going
     restart_goes c =
         let o = h.bounds in
         record {
@@ -295,15 +325,6 @@ module _
         (let o = h.bounds in let c = h.most in let m = settling_most p.mode in let r = h.told in omega arith)
         restart_goes
 
-    -- The counts of the run, from those of the state.
-    before : (out_row v (mode_in log) h.running.run ≤ 2) × (out_all v (mode_in log) h.running.run ≤ 5)
-    unfolding tally_of
-    before =
-        let r : p.measuring.row ≡ out_row v (mode_in log) h.running.run = ap (λ (k : MeasuringCounts). k.row) h.running.tally in
-        let a : p.measuring.all ≡ out_all v (mode_in log) h.running.run = ap (λ (k : MeasuringCounts). k.all) h.running.tally in
-        let o = h.bounds in
-        (omega arith, omega arith)
-
     module _
         (k : MeasuringCounts)
         (counts : k ≡ tallied (out_of v (mode_in log) s) s.speed (tally_of v (mode_in log) h.running.run))
@@ -335,31 +356,25 @@ module _
             subst⁻¹ (λ (x : MeasuringCounts). Good v (a_second s) log (take 10 (measured_of v (mode_in log) s ∷ last)) (concluded x p)) e
             (concluded_good (omega arith) (omega arith))
 
-        -- The window that ends here is counted where it is valid.
+        -- The window that ends here is counted.
         pub judged_counts :
             window_judged (window_taken k.seconds (take 10 (measured_of v (mode_in log) s ∷ last))) v (take 10 (measured_of v (mode_in log) s ∷ last)) k ≡
             tally_of v (mode_in log) (s ∷ h.running.run)
         unfolding window_judged tallied tally_of
         judged_counts =
-            on_pick (λ (c : MeasuringCounts). c ≡ tally_of v (mode_in log) (s ∷ h.running.run))
-            (window_taken k.seconds (take 10 (measured_of v (mode_in log) s ∷ last))) _ _
-            (λ e.
-            ap (window_counted (window_passes v (take 10 (measured_of v (mode_in log) s ∷ last)))) counts ∙
-            tally_more v (mode_in log) s h.running.run last h.running.old h.running.held short before.0 before.1
-            (windows_most v (mode_in log) h.running.run)
-            (subst (λ (x : MeasuringCounts). window_taken x.seconds (take 10 (measured_of v (mode_in log) s ∷ last)) ≡ true) counts e))
-            (λ e.
+            ap
+            (λ (x : MeasuringCounts).
+            window_judged (window_taken x.seconds (take 10 (measured_of v (mode_in log) s ∷ last))) v
+            (take 10 (measured_of v (mode_in log) s ∷ last)) x)
             counts ∙
-            tally_none v (mode_in log) s h.running.run last h.running.old h.running.held short before.0 before.1
-            (windows_most v (mode_in log) h.running.run)
-            (subst (λ (x : MeasuringCounts). window_taken x.seconds (take 10 (measured_of v (mode_in log) s ∷ last)) ≡ false) counts e))
+            tally_more v (mode_in log) s h.running.run last h.running.old h.running.held short before.0 before.1 before.2
 
         judged_out :
             (valid : Bool) (a : List window.Measured) →
             ((window_judged valid v a k).row ≡ k.row) × ((window_judged valid v a k).all ≡ k.all)
         unfolding window_judged window_counted
         judged_out valid a =
-            on_pick (λ (c : MeasuringCounts). (c.row ≡ k.row) × (c.all ≡ k.all)) valid _ _ (λ _. (refl, refl)) (λ _. (refl, refl))
+            on_pick (λ (c : MeasuringCounts). (c.row ≡ k.row) × (c.all ≡ k.all)) (window_ends k.seconds) _ _ (λ _. (refl, refl)) (λ _. (refl, refl))
 
         judged_turn :
             Good v (a_second s) log (take 10 (measured_of v (mode_in log) s ∷ last))

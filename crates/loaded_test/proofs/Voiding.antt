@@ -24,6 +24,7 @@ use Rattle.loaded_test.specs.declared.Progress.{Progress}
 use Rattle.loaded_test.specs.declared.Turn.{Turn}
 use Rattle.loaded_test.specs.State.{emptied, turn, with_verdict, verdict_of}
 use Rattle.attempt.specs.Counting.{bump, in_row}
+use Rattle.attempt.specs.Laws.{Accounted}
 use Rattle.loaded_test.specs.Voids.{ended, mode_ended, void_counted, void_next, twice_inconclusive, third_void, void_followed, voided, step_five}
 use Rattle.loaded_test.specs.Log.{Entry, Input}
 use Rattle.loaded_test.specs.Claim.{mode_after, mode_in, begins, voids, begun}
@@ -76,6 +77,10 @@ abbrev pub Reason : List Entry → Did → Verdict → Type 0
 Reason log d x =
     (nines_in (void_added d (voids_in log)) ≡ 2) ⊎ ((x.t ≡ 90) × (x.passing < 15) × (25 ≤ x.failing))
 
+-- A verdict's windows are all accounted for.
+abbrev pub Exact : Verdict → Type 0
+Exact x = Accounted x.t x.passing x.failing x.invalid
+
 module _ (v : Vehicle) (i : Input) (log : List Entry) where
   -- Nothing is claimed of an entry that voids nothing and ends nothing.
   pub silent :
@@ -85,10 +90,11 @@ module _ (v : Vehicle) (i : Input) (log : List Entry) where
       Claims v (entry i x ∷ log)
   unfolding voids
   silent x quiet endless = record {
-    pass = λ t passing failing e. absurd (endless _ e);
+    pass = λ t passing failing invalid e. absurd (endless _ e);
     void = λ n e. absurd (true≢false (sym (ap voids e) ∙ quiet));
     incomplete = λ w. absurd (endless w.0 w.1);
     fail = λ y e w. absurd (endless y e);
+    accounted = λ y e. absurd (endless y e);
   }
 
   module _ (last : List Measured) where
@@ -109,7 +115,7 @@ module _ (v : Vehicle) (i : Input) (log : List Entry) where
         counting = attempt_begins _ _ refl;
       };
       claims = record {
-        pass = λ t passing failing e. absurd (two_ends_not _ e);
+        pass = λ t passing failing invalid e. absurd (two_ends_not _ e);
         void = λ n e. record {
           two = λ q. subst (λ (x : Mode). ModeOver x ModeTwo) mode refl;
           three = λ q r. absurd (q (two n e));
@@ -117,12 +123,13 @@ module _ (v : Vehicle) (i : Input) (log : List Entry) where
         };
         incomplete = λ w. absurd (two_ends_not w.0 w.1);
         fail = λ y e w. absurd (two_ends_not y e);
+        accounted = λ y e. absurd (two_ends_not y e);
       };
     }
     mode_ended_lem Two d k p mode b two reason = record {
       stage = b;
       claims = record {
-        pass = λ t passing failing e. absurd (fail_pass (ap (λ (x : Verdict). x.word) (same_end e)));
+        pass = λ t passing failing invalid e. absurd (fail_pass (ap (λ (x : Verdict). x.word) (same_end e)));
         void = λ n e. record {
           two = λ q. subst (λ (x : Mode). ModeOver x (Ends (verdict_of Fail p.measuring))) mode (verdict_of Fail p.measuring, refl, refl);
           three = λ q r. absurd (q (two n e));
@@ -130,6 +137,7 @@ module _ (v : Vehicle) (i : Input) (log : List Entry) where
         };
         incomplete = λ w. absurd (fail_incomplete (ap (λ (x : Verdict). x.word) (same_end w.1) ∙ w.2));
         fail = λ y e w. (sym mode, subst (λ (x : Verdict). Reason log d x) (same_end e) reason);
+        accounted = λ y e. subst Exact (same_end e) b.accounted;
       };
     }
 
@@ -144,7 +152,7 @@ module _ (v : Vehicle) (i : Input) (log : List Entry) where
     incomplete_told n k p b nines three = record {
       stage = b;
       claims = record {
-        pass = λ t passing failing e. absurd (incomplete_pass (ap (λ (x : Verdict). x.word) (same_end e)));
+        pass = λ t passing failing invalid e. absurd (incomplete_pass (ap (λ (x : Verdict). x.word) (same_end e)));
         void = λ m e. rw (← same_void e) record {
           two = λ q. absurd (nines q);
           three = λ q r. (verdict_of Incomplete p.measuring, refl, refl);
@@ -152,6 +160,7 @@ module _ (v : Vehicle) (i : Input) (log : List Entry) where
         };
         incomplete = λ w. (three, nines);
         fail = λ y e w. absurd (fail_incomplete (sym (ap (λ (x : Verdict). x.word) (same_end e) ∙ w)));
+        accounted = λ y e. subst Exact (same_end e) b.accounted;
       };
     }
 
@@ -171,7 +180,7 @@ module _ (v : Vehicle) (i : Input) (log : List Entry) where
         bounds = omega arith;
       };
       claims = record {
-        pass = λ t passing failing e. absurd (rests_ends_not _ e);
+        pass = λ t passing failing invalid e. absurd (rests_ends_not _ e);
         void = λ m e. rw (← same_void e) record {
           two = λ x. absurd (omega arith);
           three = λ x y. absurd (omega arith);
@@ -179,6 +188,7 @@ module _ (v : Vehicle) (i : Input) (log : List Entry) where
         };
         incomplete = λ w. absurd (rests_ends_not w.0 w.1);
         fail = λ y e w. absurd (rests_ends_not y e);
+        accounted = λ y e. absurd (rests_ends_not y e);
       };
     }
 

@@ -13,7 +13,7 @@ use Rattle.attempt.specs.declared.Ending.TheVariants.{NotYet, Passes}
 use Rattle.refusal.specs.Choice.{pick}
 use Rattle.attempt.specs.Screening.{Diluted}
 use Rattle.attempt.specs.Speeds.{SpeedHeld}
-use Rattle.loaded_test.specs.Windows.{longest_out, out_all, passing_in, failing_in, speeds_of, ending_of}
+use Rattle.loaded_test.specs.Windows.{longest_out, out_all, passing_in, failing_in, invalid_in, speeds_of, ending_of}
 use Rattle.loaded_test.specs.Log.{Entry, Input, a_second, a_stop}
 
 -- The mode is 2 exactly if mode 2 has begun.
@@ -123,8 +123,8 @@ NotEndedIn v mode (s ∷ l) =
     (25 ≤ length (s ∷ l) → 15 ≤ passing_in v mode (s ∷ l) → SpeedHeld (speeds_of (s ∷ l)) → ⊥) ×
     NotEndedIn v mode l
 
--- A pass (t, passing, failing) told by the entry e after the log.
-pub record Earned (v : Vehicle) (e : Entry) (log : List Entry) (t passing failing : ℕ) : Type 0 where
+-- A pass (t, passing, failing, invalid) told by the entry e after the log.
+pub record Earned (v : Vehicle) (e : Entry) (log : List Entry) (t passing failing invalid : ℕ) : Type 0 where
   -- the last t inputs are seconds, measured in one attempt in which t grew by one from 0
   pub last : Second
   pub before : List Second
@@ -150,12 +150,14 @@ pub record Earned (v : Vehicle) (e : Entry) (log : List Entry) (t passing failin
   -- passing and failing are the valid windows counted from the seconds' own units
   pub passes : passing ≡ passing_in v (mode_in log) (last ∷ before)
   pub fails : failing ≡ failing_in v (mode_in log) (last ∷ before)
+  -- invalid is the windows that are not valid, counted so too
+  pub invalids : invalid ≡ invalid_in v (mode_in log) (last ∷ before)
   pub enough : 15 ≤ passing
 
 -- Wherever the newest entry tells a pass, it is earned.
 abbrev pub PassClaim : Vehicle → List Entry → Type 0
 PassClaim v [] = Unit {0}
 PassClaim v (e ∷ log) =
-    (t passing failing : ℕ) →
-    e.next ≡ Ends (record { word = Pass; t = t; passing = passing; failing = failing }) →
-    Earned v e log t passing failing
+    (t passing failing invalid : ℕ) →
+    e.next ≡ Ends (record { word = Pass; t = t; passing = passing; failing = failing; invalid = invalid }) →
+    Earned v e log t passing failing invalid

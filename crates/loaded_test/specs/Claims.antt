@@ -13,10 +13,10 @@ use Rattle.loaded_test.specs.Steps.{second, stop}
 use Rattle.loaded_test.specs.Log.{Input, a_second, step, replay, log_of}
 use Rattle.loaded_test.specs.Claim.{PassClaim}
 use Rattle.loaded_test.specs.Sheet.{SheetTold, AllPresentIn}
-use Rattle.loaded_test.specs.Laws.{Bounded, VoidClaim, IncompleteClaim, FailClaim, LastTen}
+use Rattle.loaded_test.specs.Laws.{Bounded, VoidClaim, IncompleteClaim, FailClaim, AccountedClaim, LastTen}
 use Rattle.loaded_test.specs.Examples.{motorcycle, row, newest}
 
--- The first eight: for every vehicle and every list of seconds and stops from the test's beginning. The next four: for every test,
+-- The first nine: for every vehicle and every list of seconds and stops from the test's beginning. The next four: for every test,
 -- whatever its state. The last two: that the pass claim is not empty.
 pub record TestClaims : Type 0 where
   -- a pass is earned by t measured seconds of one attempt, which nothing voids; "in a pass these two count the valid windows in its t seconds"
@@ -27,7 +27,9 @@ pub record TestClaims : Type 0 where
   pub incomplete : (v : Vehicle) (l : List Input) → IncompleteClaim (log_of v l)
   -- a fail is told in mode 2, at q = 2 or at t = 90 with passing below 15 and failing at least 25, and nowhere else
   pub fail : (v : Vehicle) (l : List Input) → FailClaim (log_of v l)
-  -- no counter is at its cap; "Passing plus failing is 0 before t = 10 and from there at most t − 9."
+  -- in every verdict passing, failing and invalid are t − 9, and 0 before t = 10
+  pub accounted : (v : Vehicle) (l : List Input) → AccountedClaim (log_of v l)
+  -- no counter is at its cap; passing, failing and invalid are t − 9 from t = 9 on, and 0 before it
   pub bounded : (v : Vehicle) (l : List Input) → Bounded (replay v l).progress
   -- in measuring, the "last ten seconds" are the last ten that were measured
   pub last_ten :
@@ -54,9 +56,9 @@ pub record TestClaims : Type 0 where
       stop x n ≡ refused CauseUnfit x
   -- "second or stop, no test": refused 13
   pub idle : (x : Test) (i : Input) → is_running x.progress.stage ≡ false → step x i ≡ refused NoTest x
-  -- "36 rows of .., no stops: `pass 1 25 16 0 ..`"
+  -- "36 rows of .., no stops: `pass 1 25 16 0 ..`"; "the longer listing reads 25 16 0 0 there"
   pub passes :
       newest (log_of motorcycle (replicate 36 (a_second row))) ≡
-      Ends (record { word = Pass; t = 25; passing = 16; failing = 0 })
+      Ends (record { word = Pass; t = 25; passing = 16; failing = 0; invalid = 0 })
   -- after 35 of them, with t = 24 and 15 windows, there is no verdict
   pub not_before : newest (log_of motorcycle (replicate 35 (a_second row))) ≡ GoesOn

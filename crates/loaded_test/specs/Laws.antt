@@ -16,6 +16,7 @@ use Rattle.loaded_test.specs.declared.Next.TheVariants.{GoesOn, Rests, RestEnded
 use Rattle.loaded_test.specs.declared.Progress.{Progress}
 use Rattle.loaded_test.specs.declared.Test.{Test}
 use Rattle.loaded_test.specs.declared.Stepped.{Stepped}
+use Rattle.attempt.specs.Laws.{Accounted, AllAccounted}
 use Rattle.loaded_test.specs.Windows.{window_of}
 use Rattle.loaded_test.specs.Log.{Entry}
 use Rattle.loaded_test.specs.Claim.{mode_in, Measures}
@@ -42,6 +43,8 @@ pub record Bounded (p : Progress) : Type 0 where
   -- "Passing plus failing is 0 before t = 10 and from there at most t − 9."
   pub none : p.measuring.seconds < 10 → p.measuring.windows.passing + p.measuring.windows.failing ≡ 0
   pub windows : p.measuring.windows.passing + p.measuring.windows.failing ≤ p.measuring.seconds - 9
+  -- "from t = 9 on, passing, failing and invalid together shall be exactly t − 9"; before it all three are 0
+  pub accounted : AllAccounted p.measuring
   -- r ≤ 3, q ≤ 2
   pub voids : p.voids.voids ≤ 3
   pub inconclusive : p.voids.inconclusive ≤ 2
@@ -108,6 +111,11 @@ FailClaim (e ∷ log) =
     x.word ≡ Fail →
     (mode_in log ≡ Two) ×
     ((nines_in (void_added e.did (voids_in log)) ≡ 2) ⊎ ((x.t ≡ 90) × (x.passing < 15) × (25 ≤ x.failing)))
+
+-- Wherever the newest entry tells a verdict: "or with a verdict given in measuring"; in one that is given before measuring t is 0.
+abbrev pub AccountedClaim : List Entry → Type 0
+AccountedClaim [] = Unit {0}
+AccountedClaim (e ∷ log) = (x : Verdict) → e.next ≡ Ends x → Accounted x.t x.passing x.failing x.invalid
 
 -- In measuring, the last ten seconds are the last ten measured ones, or all where there are fewer.
 pub record LastTen (v : Vehicle) (log : List Entry) (last : List Measured) : Type 0 where

@@ -104,13 +104,14 @@ with_verdict word k p = record {
   voids = k;
 }
 
--- "A verdict carries word, t, passing, failing", those of the attempt that it ends.
+-- "A verdict carries word, t, passing, failing", and invalid (document 02, A.8), those of the attempt that it ends.
 abbrev pub verdict_of : Word → MeasuringCounts → Verdict
 verdict_of word k = record {
   word = word;
   t = k.seconds;
   passing = k.windows.passing;
   failing = k.windows.failing;
+  invalid = k.windows.invalid;
 }
 
 -- What a second or a stop did, what comes next, and the counts after it.

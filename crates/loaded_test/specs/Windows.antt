@@ -55,6 +55,15 @@ unfoldable pub failing_in : Vehicle → Mode → List Second → ℕ
 failing_in v mode [] = 0
 failing_in v mode (s ∷ l) = pick (fails_here v mode (s ∷ l)) (suc (failing_in v mode l)) (failing_in v mode l)
 
+-- "Invalid" (document 02, A.8): the window ending here, from t = 10, that is not valid.
+unfoldable pub invalid_here : Vehicle → Mode → List Second → Bool
+invalid_here v mode l = leb 10 (length l) && not (window_valid (window_of v mode l))
+
+-- The windows of a run that are not valid.
+unfoldable pub invalid_in : Vehicle → Mode → List Second → ℕ
+invalid_in v mode [] = 0
+invalid_in v mode (s ∷ l) = pick (invalid_here v mode (s ∷ l)) (suc (invalid_in v mode l)) (invalid_in v mode l)
+
 -- The last valid window of a run: its ten seconds, newest first; no second where no window of the run is valid.
 unfoldable pub last_valid : Vehicle → Mode → List Second → List Second
 last_valid v mode [] = []
@@ -68,5 +77,5 @@ speeds_of l = map (λ s. s.speed) l
 unfoldable pub ending_of : Vehicle → Mode → List Second → Ending
 ending_of v mode l =
     ending_rule (length l)
-    (record { passing = passing_in v mode l; failing = failing_in v mode l })
+    (record { passing = passing_in v mode l; failing = failing_in v mode l; invalid = invalid_in v mode l })
     (speed_held (speeds_of l))

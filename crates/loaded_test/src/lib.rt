@@ -18,8 +18,8 @@ mod voids;
 
 use attempt::{MeasuringCounts, SettlingCounts};
 pub use printed::{
-    averages_of, engine_speed_of, failing_of, has_ended, is_automatic, is_running, mode_of,
-    passing_of, progress_of, seconds_of, stage_of,
+    averages_of, engine_speed_of, failing_of, has_ended, invalid_of, is_automatic, is_running,
+    mode_of, passing_of, progress_of, seconds_of, stage_of,
 };
 use reading::Second;
 use refusal::Refusal;
@@ -33,13 +33,14 @@ pub enum Word {
     Incomplete,
 }
 
-// A verdict with t, passing and failing of the attempt that it ends.
+// A verdict with t, passing, failing and invalid of the attempt that it ends.
 #[derive(Clone, Copy, Debug, PartialEq, Eq)]
 pub struct Verdict {
     pub word: Word,
     pub t: u8,
     pub passing: u8,
     pub failing: u8,
+    pub invalid: u8,
 }
 
 // What a second or a stop did: measured with its t, void with its number. Document 01 names voids 1 to 9 by number, programs print it, and no

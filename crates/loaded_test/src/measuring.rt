@@ -4,6 +4,7 @@ ghost use Rattle.loaded_test.specs.Measuring.{
   closed,
   concluded,
   window_taken,
+  outcome_of,
   judged,
   measures,
 };
@@ -12,8 +13,12 @@ ghost use Rattle.loaded_test.specs.Steps.{measured};
 use crate::steps::stepped;
 use crate::voids::{ended, mode_ended, step_five, voided};
 use crate::{Did, Progress, Stepped, Test, Turn, Word};
-use attempt::{Ending, MeasuringCounts, ending_rule, restarts, tallied, window_counted};
+use attempt::{
+    Ending, MeasuringCounts, WindowOutcome, ending_rule, restarts, tallied, window_counted,
+    window_ends,
+};
 use reading::Second;
+use vehicle::Vehicle;
 use window::Measured;
 
 #[tactic(auto, unfolding(crate::specs::Measuring::closed))]
@@ -41,7 +46,20 @@ fn concluded(k: MeasuringCounts, p: Progress) -> Turn
 fn window_taken(t: u8, last: [Measured; 10]) -> bool
     ensures { result ≡ window_taken t last }
 {
-    10 <= t && window::valid(last)
+    window_ends(t) && window::valid(last)
+}
+
+#[tactic(auto, unfolding(crate::specs::Measuring::outcome_of, refusal::specs::Choice::pick))]
+fn outcome_of(valid: bool, v: Vehicle, last: [Measured; 10]) -> WindowOutcome
+    ensures { result ≡ outcome_of valid v last }
+{
+    if !valid {
+        return WindowOutcome::Invalid;
+    }
+    if window::passes(v, last) {
+        return WindowOutcome::Passing;
+    }
+    WindowOutcome::Failing
 }
 
 // Where no valid window ends here, the last one stays.
@@ -49,16 +67,16 @@ fn window_taken(t: u8, last: [Measured; 10]) -> bool
 fn judged(valid: bool, x: Test, k: MeasuringCounts, p: Progress, last: [Measured; 10]) -> Stepped
     ensures { result ≡ judged valid x k p last }
 {
+    let turn = concluded(window_counted(outcome_of(valid, x.vehicle, last), k), p);
     if !valid {
-        return stepped(Test { last, ..x }, concluded(k, p));
+        return stepped(Test { last, ..x }, turn);
     }
-    let counts = window_counted(window::passes(x.vehicle, last), k);
     let kept = Test {
         last,
         window: last,
         ..x
     };
-    stepped(kept, concluded(counts, p))
+    stepped(kept, turn)
 }
 
 // The last ten seconds with this one.

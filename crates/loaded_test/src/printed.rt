@@ -80,6 +80,14 @@ pub fn failing_of(x: Test) -> u8
     x.progress.measuring.windows.failing
 }
 
+// Windows that are not valid.
+// Ruled out: those that fail, and t with neither passing nor failing taken off it.
+pub fn invalid_of(x: Test) -> u8
+    ensures { result ≡ x.progress.measuring.windows.invalid }
+{
+    x.progress.measuring.windows.invalid
+}
+
 // The last valid window, if there is one, whatever windows an earlier attempt had.
 #[tactic(auto, unfolding(crate::specs::State::last_window, refusal::specs::Choice::pick))]
 fn last_window(x: Test) -> Option<[Measured; 10]>

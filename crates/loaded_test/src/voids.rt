@@ -52,6 +52,7 @@ pub(crate) fn ended(did: Did, word: Word, k: VoidCounts, p: Progress) -> Turn
         t: p.measuring.seconds,
         passing: p.measuring.windows.passing,
         failing: p.measuring.windows.failing,
+        invalid: p.measuring.windows.invalid,
     };
     let after = Progress {
         stage: Stage::Ended(word),

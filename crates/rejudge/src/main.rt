@@ -9,7 +9,7 @@ use std::io;
 fn main(rt: HostRuntime) -> io::Result<()> {
     let mut input = [0u8; 60_966];
     let n = inputs::fill(&mut rt.stdin(), &mut input)?;
-    let mut output = [0u8; 192];
+    let mut output = [0u8; 200];
     let written = rejudging::line(rejudging::rejudge(&input[..n]), &mut output);
     if let Ok(k) = written {
         rt.write_all(&output[..k])?;

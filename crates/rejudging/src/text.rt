@@ -1,4 +1,4 @@
-// The printed line, put together piece by piece. It is 192 bytes of its own, since std's formatter says nothing of what failed: where it
+// The printed line, put together piece by piece. It is 200 bytes of its own, since std's formatter says nothing of what failed: where it
 // writes, no proof rules a failure out.
 ghost use Rattle.std.specs.Prelude.{◌≡◌, ◌+◌, ◌≤◌, List, [], ◌++◌, ℕ, length, take};
 ghost use Rattle.rejudging.specs.Line.{
@@ -6,7 +6,7 @@ ghost use Rattle.rejudging.specs.Line.{
   spaced,
   word_text,
   mode_number,
-  averages_text,
+  three_text,
   window_text,
   engine_text,
   sheet_text,
@@ -24,7 +24,7 @@ use window::Averages;
 // A line as far as it is put.
 #[derive(Drop)]
 pub(crate) struct Line {
-    bytes: [u8; 192],
+    bytes: [u8; 200],
     len: usize,
 }
 
@@ -33,7 +33,7 @@ impl Model for Line {
 
     ghost view = { λ l. take l.len l.bytes };
 
-    ghost invariant = { λ l. l.len ≤ 192 };
+    ghost invariant = { λ l. l.len ≤ 200 };
 }
 
 #[tactic(auto, unfolding(crate::specs::Line::word_text))]
@@ -64,7 +64,7 @@ impl Line {
         ensures { result ≡ [] }
     {
         Line {
-            bytes: [0; 192],
+            bytes: [0; 200],
             len: 0,
         }
     }
@@ -77,7 +77,7 @@ impl Line {
 
     #[tactic(auto, using(std::proofs::lemmas::Slice::overwrites))]
     fn push(&mut self, piece: &[u8])
-        requires { length self.old + length piece.now ≤ 192 }
+        requires { length self.old + length piece.now ≤ 200 }
         ensures { self.new ≡ self.old ++ piece.now }
     {
         let end = self.len + piece.len();
@@ -87,7 +87,7 @@ impl Line {
 
     // In digits, since `Display` states no text; a digit is cast where it is proved to fit.
     fn decimal(&mut self, n: u64)
-        requires { length self.old + length (decimal n) ≤ 192 }
+        requires { length self.old + length (decimal n) ≤ 200 }
         ensures { self.new ≡ self.old ++ decimal n }
     {
         if n < 10 {
@@ -100,37 +100,37 @@ impl Line {
 
     #[tactic(auto, unfolding(crate::specs::Line::spaced))]
     fn spaced(&mut self, n: u64)
-        requires { length self.old + length (spaced n) ≤ 192 }
+        requires { length self.old + length (spaced n) ≤ 200 }
         ensures { self.new ≡ self.old ++ spaced n }
     {
         self.push(b" ");
         self.decimal(n);
     }
 
-    #[tactic(auto, unfolding(crate::specs::Line::averages_text))]
-    fn averages(&mut self, x: Averages)
-        requires { length self.old + length (averages_text x.hc x.co x.no) ≤ 192 }
-        ensures { self.new ≡ self.old ++ averages_text x.hc x.co x.no }
+    #[tactic(auto, unfolding(crate::specs::Line::three_text))]
+    fn three(&mut self, a: u64, b: u64, c: u64)
+        requires { length self.old + length (three_text a b c) ≤ 200 }
+        ensures { self.new ≡ self.old ++ three_text a b c }
     {
-        self.spaced(x.hc as u64);
-        self.spaced(x.co as u64);
-        self.spaced(x.no as u64);
+        self.spaced(a);
+        self.spaced(b);
+        self.spaced(c);
     }
 
     #[tactic(auto, unfolding(crate::specs::Line::window_text))]
     fn window(&mut self, window: Option<Averages>)
-        requires { length self.old + length (window_text window) ≤ 192 }
+        requires { length self.old + length (window_text window) ≤ 200 }
         ensures { self.new ≡ self.old ++ window_text window }
     {
         match window {
-            Some(x) => self.averages(x),
+            Some(x) => self.three(x.hc as u64, x.co as u64, x.no as u64),
             None => self.push(b" - - -"),
         }
     }
 
     #[tactic(auto, unfolding(crate::specs::Line::engine_text))]
     fn engine(&mut self, engine: Option<u16>)
-        requires { length self.old + length (engine_text engine) ≤ 192 }
+        requires { length self.old + length (engine_text engine) ≤ 200 }
         ensures { self.new ≡ self.old ++ engine_text engine }
     {
         match engine {
@@ -141,14 +141,13 @@ impl Line {
 
     #[tactic(auto, unfolding(crate::specs::Line::sheet_text))]
     fn sheet(&mut self, x: Sheet)
-        requires { length self.old + length (sheet_text x) ≤ 192 }
+        requires { length self.old + length (sheet_text x) ≤ 200 }
         ensures { self.new ≡ self.old ++ sheet_text x }
     {
         self.push(word_text(x.word));
         self.spaced(mode_number(x.mode));
         self.spaced(x.t as u64);
-        self.spaced(x.passing as u64);
-        self.spaced(x.failing as u64);
+        self.three(x.passing as u64, x.failing as u64, x.invalid as u64);
         self.window(x.window);
         self.engine(x.engine);
         self.push(b"\n");
@@ -156,7 +155,7 @@ impl Line {
 
     #[tactic(auto, unfolding(crate::specs::Line::refusal_text, crate::specs::Line::refused_text))]
     fn refusal(&mut self, r: Refusal)
-        requires { length self.old + length (refusal_text r) ≤ 192 }
+        requires { length self.old + length (refusal_text r) ≤ 200 }
         ensures { self.new ≡ self.old ++ refusal_text r }
     {
         self.push(b"refused");

@@ -114,8 +114,8 @@ fn state(output: &mut impl Write, p: Progress) -> io::Result<()> {
     )?;
     write!(
         output,
-        " u {u} w {w} passing {} failing {}",
-        m.windows.passing, m.windows.failing
+        " u {u} w {w} passing {} failing {} invalid {}",
+        m.windows.passing, m.windows.failing, m.windows.invalid
     )?;
     write!(
         output,

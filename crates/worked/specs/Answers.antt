@@ -18,11 +18,11 @@ accepts e = record { event = e; answer = Ok None }
 abbrev pub refuses : Event → Refusal → Exchange
 refuses e r = record { event = e; answer = Err r }
 
--- It brings a verdict: word, t, passing, failing.
-abbrev pub judges : Event → Word → ℕ → ℕ → ℕ → Exchange
-judges e word t passing failing = record {
+-- It brings a verdict: word, t, passing, failing, invalid.
+abbrev pub judges : Event → Word → ℕ → ℕ → ℕ → ℕ → Exchange
+judges e word t passing failing invalid = record {
   event = e;
-  answer = Ok (Some (record { word = word; t = t; passing = passing; failing = failing }));
+  answer = Ok (Some (record { word = word; t = t; passing = passing; failing = failing; invalid = invalid }));
 }
 
 -- All of these are accepted, in front of a run.

@@ -34,11 +34,11 @@ dip_after n speed run = started (steady 11 (steady n (accepts (at_speed speed) �
 
 -- A pass at the 25th second, with all 16 windows.
 abbrev pub early : List Exchange
-early = judges (at_one clean) Pass 25 16 0 ∷ []
+early = judges (at_one clean) Pass 25 16 0 0 ∷ []
 
 -- A pass at the 90th, with all 81.
 abbrev pub late : List Exchange
-late = judges (at_one clean) Pass 90 81 0 ∷ []
+late = judges (at_one clean) Pass 90 81 0 0 ∷ []
 
 -- "A dip at second 6 alone then keeps the test running": it passes at t = 90.
 abbrev pub dip_of_nine : List Exchange

@@ -8,4 +8,5 @@ pub mod Preparing
 pub mod Refusing
 pub mod Voiding
 pub mod Dipping
+pub mod Windows
 pub mod Runs

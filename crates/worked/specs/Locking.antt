@@ -18,7 +18,7 @@ stop_renews_nothing =
     ∷ resting
     (accepts (at_one Over)
     ∷ resting
-    (accepts (at_one clean) ∷ judges (Stop 1803 1) Incomplete 0 0 0 ∷ refuses (start 1803) (StartLocked 2) ∷ [])))
+    (accepts (at_one clean) ∷ judges (Stop 1803 1) Incomplete 0 0 0 0 ∷ refuses (start 1803) (StartLocked 2) ∷ [])))
 
 -- The start is locked until warm-up, calibration and sign-in have come again, in front of a run.
 abbrev pub voided : ℕ → List Exchange → List Exchange
@@ -97,7 +97,7 @@ abbrev pub incomplete : List Exchange → List Exchange
 incomplete run =
     accepts (start 2)
     ∷ accepts (at_one Over)
-    ∷ resting (accepts (at_one Over) ∷ resting (judges (at_one Over) Incomplete 0 0 0 ∷ run))
+    ∷ resting (accepts (at_one Over) ∷ resting (judges (at_one Over) Incomplete 0 0 0 0 ∷ run))
 
 -- Lock 7 stands at two verdicts (U is 2), and until an upload; an unlock does not lift it.
 abbrev pub unsent : List Exchange

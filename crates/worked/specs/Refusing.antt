@@ -19,7 +19,7 @@ one_of_each =
     ∷ refuses (Upload 6) TestRunning
     ∷ refuses (Second 6 unfit) (ReadingUnfit 5)
     ∷ refuses (Stop 6 5) CauseUnfit
-    ∷ times 35 (accepts (Second 5 (one Missing clean))) (judges (Second 5 (one Missing clean)) Pass 25 16 0 ∷ []))
+    ∷ times 35 (accepts (Second 5 (one Missing clean))) (judges (Second 5 (one Missing clean)) Pass 25 16 0 0 ∷ []))
 
 -- Where several rows of the table stand, the first in the order 11, 12 or 13, 4, 5, 15 or 8, 14 refuses.
 abbrev pub first_of_several : List Exchange

@@ -13,6 +13,7 @@ use Rattle.worked.specs.Preparing as preparing
 use Rattle.worked.specs.Refusing as refusing
 use Rattle.worked.specs.Voiding.{SevenFirst}
 use Rattle.worked.specs.Dipping as dipping
+use Rattle.worked.specs.Windows as windows
 
 -- V: a day.
 abbrev pub validity : ℕ
@@ -77,3 +78,7 @@ pub record Played : Type 0 where
   pub slow_fall : Answered dipping.slow_fall
   pub rise_free : Answered dipping.rise_free
   pub kept_running : dipping.KeptRunning
+  -- windows that are not valid
+  pub out_once : Answered windows.out_once
+  pub nine_seconds : Answered windows.nine_seconds
+  pub ten_seconds : Answered windows.ten_seconds

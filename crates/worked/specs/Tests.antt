@@ -17,7 +17,7 @@ resting run = times 10 (accepts at_rest) run
 
 -- An admitted start to a pass: 11 seconds of settling, 25 measured.
 abbrev pub passing : List Exchange
-passing = started (times 35 (accepts (at_one clean)) (judges (at_one clean) Pass 25 16 0 ∷ []))
+passing = started (times 35 (accepts (at_one clean)) (judges (at_one clean) Pass 25 16 0 0 ∷ []))
 
 -- A void, a rest, a pass.
 abbrev pub after_void : List Exchange
@@ -25,27 +25,27 @@ after_void =
     started
     (times 5 (accepts (at_one clean))
     (accepts (at_one Over)
-    ∷ resting (times 35 (accepts (at_one clean)) (judges (at_one clean) Pass 25 16 0 ∷ []))))
+    ∷ resting (times 35 (accepts (at_one clean)) (judges (at_one clean) Pass 25 16 0 0 ∷ []))))
 
--- Three seconds out in a row begin t anew.
+-- Three seconds out in a row begin t anew; the windows of before them are forgotten, of which two were invalid.
 abbrev pub restarted : List Exchange
 restarted =
     started
     (times 31 (accepts (at_one clean))
     (times 3 (accepts (at_two clean))
-    (times 24 (accepts (at_one clean)) (judges (at_one clean) Pass 25 16 0 ∷ []))))
+    (times 24 (accepts (at_one clean)) (judges (at_one clean) Pass 25 16 0 0 ∷ []))))
 
 -- Mode 1 fails at t = 90, mode 2 passes.
 abbrev pub passing_in_two : List Exchange
 passing_in_two =
     started
-    (times 101 (accepts (at_one foul)) (times 29 (accepts (at_two clean)) (judges (at_two clean) Pass 25 16 0 ∷ [])))
+    (times 101 (accepts (at_one foul)) (times 29 (accepts (at_two clean)) (judges (at_two clean) Pass 25 16 0 0 ∷ [])))
 
 -- Mode 1 fails at t = 90, and so does mode 2: a fail by windows.
 abbrev pub failing_in_two : List Exchange
 failing_in_two =
     started
-    (times 101 (accepts (at_one foul)) (times 94 (accepts (at_two foul)) (judges (at_two foul) Fail 90 0 81 ∷ [])))
+    (times 101 (accepts (at_one foul)) (times 94 (accepts (at_two foul)) (judges (at_two foul) Fail 90 0 81 0 ∷ [])))
 
 -- Mode 1 with engine speed good while settling and not while measuring, up to t = 89: no window is valid.
 abbrev pub turned_one : List Exchange → List Exchange
@@ -68,7 +68,7 @@ twice_inconclusive =
     ∷ accepts over_in_two
     ∷ resting
     (turned_two
-    (accepts (turning_two 2000) ∷ resting (turned_two (judges (turning_two 2000) Fail 90 0 0 ∷ []))))))))
+    (accepts (turning_two 2000) ∷ resting (turned_two (judges (turning_two 2000) Fail 90 0 0 81 ∷ []))))))))
 
 -- Power-on ends a test with no verdict.
 abbrev pub powered_on : List Exchange

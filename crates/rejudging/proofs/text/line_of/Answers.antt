@@ -10,11 +10,11 @@ use Rattle.rejudging.proofs.text.line_of.Goals as goal
 pub sheet-requires : goal.sheet-requires
 unfolding line_of
 sheet-requires c =
-    let fits : length (sheet_text c.in-Ok.x) ≤ 192 = line_fits_lem (Ok c.in-Ok.x) in
+    let fits : length (sheet_text c.in-Ok.x) ≤ 200 = line_fits_lem (Ok c.in-Ok.x) in
     rw c.new-line.ensures (omega arith)
 
 pub refusal-requires : goal.refusal-requires
 unfolding line_of
 refusal-requires c =
-    let fits : length (refusal_text c.in-Err.refusal) ≤ 192 = line_fits_lem (Err c.in-Err.refusal) in
+    let fits : length (refusal_text c.in-Err.refusal) ≤ 200 = line_fits_lem (Err c.in-Err.refusal) in
     rw c.new-line.ensures (omega arith)
