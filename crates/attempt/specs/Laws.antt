@@ -79,7 +79,7 @@ pub record Accounted (t passing failing invalid : ℕ) : Type 0 where
 abbrev pub AllAccounted : MeasuringCounts → Type 0
 AllAccounted k = Accounted k.seconds k.windows.passing k.windows.failing k.windows.invalid
 
--- One measured second more, where every window before it is accounted for: with the one that ends there they are so again. A.8's law for every
+-- One measured second more, short of t's cap, where every window before it is accounted for: with the one that ends there they are so again. A.8's law for every
 -- test and every bench rests on this, and `CountsTold` does.
 abbrev pub OneWindowMore : Type 0
 OneWindowMore =
@@ -98,6 +98,7 @@ pub record RunTold (l : List Driven) : Type 0 where
   pub w : (counts_after l).all ≡ all_of (outs (run_of l))
   pub first : (counts_after l).first ≡ speed_at 1 (speeds (run_of l))
   pub held : ((counts_after l).held ≡ true) ↔ SpeedHeld (speeds (run_of l))
+  -- short of that cap
   pub windows : length (run_of l) ≤ 255 → AllAccounted (counts_after l)
 
 -- For every list of seconds.

@@ -5,10 +5,9 @@ use mathlib.Core.Path.{◌≡◌, refl, ap, sym, ◌∙◌, subst, subst⁻¹}
 use mathlib.Core.List.{List, [], ◌∷◌}
 use Rattle.std.specs.Prelude.{Some, Ok, None, Option}
 use Rattle.vehicle.specs.Checked.{vehicle_of}
-use Rattle.attempt.specs.Laws.{Accounted}
 use Rattle.loaded_test.specs.declared.Verdict.{Verdict}
 use Rattle.loaded_test.specs.declared.Test.{Test}
-use Rattle.loaded_test.specs.Laws.{Bounded as TestBounded}
+use Rattle.loaded_test.specs.Laws.{Bounded as TestBounded, VerdictAccounted}
 use Rattle.loaded_test.proofs.Passing.{bounded as test-within}
 use Rattle.locks.specs.declared.Event.{Event}
 use Rattle.locks.specs.declared.Event.TheVariants.{Start}
@@ -90,7 +89,7 @@ module _ (validity limit : ℕ) (fit : limit ≤ 255) where
   pub all_accounted :
       (es : List Event) (e : Event) (x : Verdict) →
       answer_after validity limit es e ≡ Ok (Some x) →
-      Accounted x.t x.passing x.failing x.invalid
+      VerdictAccounted x
   all_accounted es e x a =
       let h : History = history_of validity limit es in
       let g : Gives h e x = given es e x a in

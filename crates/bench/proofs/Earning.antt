@@ -10,7 +10,6 @@ use Rattle.reading.specs.Units.{second_of}
 use Rattle.vehicle.specs.declared.Settings.{Settings}
 use Rattle.vehicle.specs.declared.Vehicle.{Vehicle}
 use Rattle.vehicle.specs.Checked.{vehicle_of}
-use Rattle.attempt.specs.Laws.{Accounted}
 use Rattle.loaded_test.specs.declared.Verdict.{Verdict}
 use Rattle.loaded_test.specs.declared.Did.{Did}
 use Rattle.loaded_test.specs.declared.Next.{Next}
@@ -18,7 +17,7 @@ use Rattle.loaded_test.specs.declared.Next.TheVariants.{Ends}
 use Rattle.loaded_test.specs.declared.Test.{Test}
 use Rattle.loaded_test.specs.Log.{Input, a_second, Entry, step, replay, logged, log_of}
 use Rattle.loaded_test.specs.Claim.{Measures, more as measuresMore, Earned, PassClaim}
-use Rattle.loaded_test.specs.Laws.{AccountedClaim}
+use Rattle.loaded_test.specs.Laws.{VerdictAccounted, AccountedClaim}
 use Rattle.loaded_test.proofs.Passing.{passes, accounted_all}
 use Rattle.locks.specs.declared.Event.{Event}
 use Rattle.locks.specs.declared.Event.TheVariants.{Start, Second, Stop}
@@ -84,7 +83,7 @@ pub verdict_accounted :
     (l : List Accepted) (test : Test) (i : Input) (did : Did) (x : Verdict) →
     Follows l test →
     (step test i).answer ≡ Ok (record { did = did; next = Ends x }) →
-    Accounted x.t x.passing x.failing x.invalid
+    VerdictAccounted x
 verdict_accounted l test i did x f told =
     subst AccountedClaim (newest l test i did (Ends x) f told)
     (accounted_all (vehicle_of f.settings f.saturation) (i ∷ inputs_since l)) x refl

@@ -8,10 +8,11 @@ use Rattle.bench.specs.Stepping.{fresh_bench, opened_of}
 use Rattle.bench.specs.Demand.{bench_after, Demand3}
 use Rattle.bench.specs.Laws.{Laws}
 
--- The greatest counts, and the windows of the test: no counter of the test is at its cap, wrong tries are held at the four that lock, unsent verdicts are at most U.
+-- The greatest counts: no counter of the test is at its cap, wrong tries are held at the four that lock, unsent verdicts are at most U.
 pub record Bounded (limit : ℕ) (b : Bench) : Type 0 where
   pub wrong : b.desk.locks.security.wrong ≤ 4
   pub unsent : b.desk.locks.unsent ≤ limit
+  -- with its windows: document 02, A.8, while measuring and after a verdict
   pub test : TestBounded b.test.progress
 
 -- What holds of every list of events given to a bench that was opened with this V and U.

@@ -3,9 +3,9 @@ use Rattle.refusal.specs.declared.Refusal.TheVariants.{ClockEarlier, TestRunning
 use Rattle.std.specs.Prelude.{ℕ, ◌≤◌, ◌<◌, true, ◌≡◌, ◌↔◌, List, [], ◌∷◌, ◌++◌, map, length, take, drop, None, Ok, Err, Some}
 use Rattle.refusal.specs.declared.Refusal.{Refusal}
 use Rattle.refusal.specs.Table.{number_of}
-use Rattle.attempt.specs.Laws.{Accounted}
 use Rattle.loaded_test.specs.declared.Test.{Test}
 use Rattle.loaded_test.specs.declared.Verdict.{Verdict}
+use Rattle.loaded_test.specs.Laws.{VerdictAccounted}
 use Rattle.coast_down.specs.declared.Run.{Run}
 use Rattle.coast_down.specs.Claims.{Between}
 use Rattle.prepare.specs.declared.ZeroCheck.{ZeroCheck}
@@ -115,7 +115,7 @@ pub record Laws (validity limit : ℕ) : Type 0 where
   pub accounted :
       (es : List Event) (e : Event) (x : Verdict) →
       answer_after validity limit es e ≡ Ok (Some x) →
-      Accounted x.t x.passing x.failing x.invalid
+      VerdictAccounted x
   -- the answer at each split of a list is the list's element there
   pub split :
       (es : List Event) (e : Event) (fs : List Event) →

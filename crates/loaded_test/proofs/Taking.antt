@@ -39,11 +39,11 @@ use Rattle.loaded_test.specs.Windows.{out_of, out_row, longest_out, out_all, pas
 use Rattle.loaded_test.specs.Log.{Entry, Input, a_second, logged}
 use Rattle.loaded_test.specs.Claim.{mode_after, mode_in, voids, InAttempt, goes_on, Measures, none, more, Clean, AllClean, no_second, and_clean, attempt_in, NotYetIn, NotEndedIn}
 use Rattle.loaded_test.specs.Sheet.{t_going, t_after, run_in}
-use Rattle.loaded_test.specs.Laws.{Bounded}
+use Rattle.loaded_test.specs.Laws.{Bounded, VerdictAccounted}
 use Rattle.loaded_test.proofs.Runs.{oldest_none, oldest_more}
 use Rattle.loaded_test.proofs.Counting.{Counts, attempt_goes}
 use Rattle.loaded_test.proofs.Holding.{settling_most, some_valid, tally_of, Told, Open, Running, AtStage, Good, Kept}
-use Rattle.loaded_test.proofs.Voiding.{Exact, going_ends_not, same_end, fail_pass, incomplete_pass, silent, mode_ended_lem, voided_good, five_good}
+use Rattle.loaded_test.proofs.Voiding.{going_ends_not, same_end, fail_pass, incomplete_pass, silent, mode_ended_lem, voided_good, five_good}
 use Rattle.loaded_test.proofs.Approach.{told_on}
 use Rattle.std.proofs.lemmas.Bool.{or_parts}
 use Rattle.attempt.proofs.Most.{row_most, all_most}
@@ -247,7 +247,7 @@ module _
                 void = λ n e. absurd (measured_voids_not _ n e);
                 incomplete = λ w. absurd (incomplete_pass (sym (ap (λ (x : Verdict). x.word) (same_end w.1) ∙ w.2)));
                 fail = λ y e w. absurd (fail_pass (sym (ap (λ (x : Verdict). x.word) (same_end e) ∙ w)));
-                accounted = λ y e. subst Exact (same_end e) b.accounted;
+                accounted = λ y e. subst VerdictAccounted (same_end e) b.accounted;
               };
             }
 

@@ -1,7 +1,7 @@
 -- The counts of measuring are those counted from the run's seconds: one more second, with its window. Assumes nothing.
 use Prim.Native.Nat.{suc, ◌+◌, ◌-◌, ◌≤◌, min}
 use native.Mathlib.Omega.{arith}
-use mathlib.Core.Bool.{Bool, true, false, not, ◌&&◌, true≢false}
+use mathlib.Core.Bool.{Bool, true, false, not, ◌&&◌}
 use mathlib.Core.Path.{◌≡◌, refl, sym, ap, ◌∙◌, subst}
 use mathlib.Core.List.{List, ◌∷◌, ◌++◌, map}
 use lib.Dec.{leb}
@@ -9,6 +9,7 @@ use lib.ListN.{length, take, length-map}
 use lib.Seq.{take-take, take-append-le}
 use borrow.Author.Tests.{leb-true, le-leb}
 use Rattle.refusal.specs.Choice.{pick}
+use Rattle.refusal.proofs.Picked.{on_pick}
 use Rattle.reading.specs.declared.Second.{Second}
 use Rattle.vehicle.specs.declared.Vehicle.{Vehicle}
 use Rattle.vehicle.specs.declared.Mode.{Mode}
@@ -16,16 +17,15 @@ use Rattle.window.specs.declared.Measured.{Measured}
 use Rattle.window.specs.Measuring.{measured_of, window_valid}
 use Rattle.window.specs.Judging.{window_passes}
 use Rattle.attempt.specs.Counting.{bump, in_row, in_all, row_of, all_of}
+use Rattle.attempt.specs.declared.MeasuringCounts.{MeasuringCounts}
 use Rattle.attempt.specs.declared.WindowCounts.{WindowCounts}
 use Rattle.attempt.specs.declared.WindowOutcome.TheVariants.{Passing, Failing}
 use Rattle.attempt.specs.Measuring.{tallied, one_more, kept_with, window_counted}
+use Rattle.attempt.specs.Laws.{AllAccounted}
 use Rattle.loaded_test.specs.Measuring.{window_taken, outcome_of, window_judged}
 use Rattle.loaded_test.specs.Windows.{out_of, out_row, out_all, window_of, valid_here, passes_here, fails_here, passing_in, failing_in, invalid_here, invalid_in, speeds_of}
 use Rattle.loaded_test.proofs.Holding.{some_valid, tally_of}
 use Rattle.std.proofs.lemmas.Bool.{and_parts}
-use Rattle.attempt.specs.declared.MeasuringCounts.{MeasuringCounts}
-use Rattle.refusal.proofs.Picked.{on_pick}
-use Rattle.attempt.specs.Laws.{AllAccounted}
 use Rattle.attempt.proofs.Windows.{accounted, exactly, one_window_more}
 use Rattle.attempt.proofs.Speeds.{first_more, held_more}
 
@@ -33,26 +33,6 @@ use Rattle.attempt.proofs.Speeds.{first_more, held_more}
 pub valid_ten : (v : Vehicle) (mode : Mode) (l : List Second) → valid_here v mode l ≡ true → 10 ≤ length l
 unfolding valid_here
 valid_ten v mode l e = leb-true _ _ (and_parts (leb 10 (length l)) (window_valid (window_of v mode l)) e).0
-
--- A window that is valid is not invalid.
-valid_not : (v : Vehicle) (mode : Mode) (l : List Second) → valid_here v mode l ≡ true → invalid_here v mode l ≡ false
-unfolding valid_here invalid_here
-valid_not v mode l e = go (leb 10 (length l)) (window_valid (window_of v mode l)) e
-  where
-    go : (b c : Bool) → b && c ≡ true → b && not c ≡ false
-    go true true e = refl
-    go true false e = absurd (true≢false (sym e))
-    go false c e = refl
-
--- Where no valid window ends, an invalid one does from t = 10 on.
-not_valid : (v : Vehicle) (mode : Mode) (l : List Second) → valid_here v mode l ≡ false → invalid_here v mode l ≡ leb 10 (length l)
-unfolding valid_here invalid_here
-not_valid v mode l e = go (leb 10 (length l)) (window_valid (window_of v mode l)) e
-  where
-    go : (b c : Bool) → b && c ≡ false → b && not c ≡ b
-    go true true e = absurd (true≢false e)
-    go true false e = refl
-    go false c e = refl
 
 -- A valid window counted.
 valid_more :
@@ -120,10 +100,9 @@ module _
             window_taken (bump (length l)) (take 10 (measured_of v mode s ∷ last)) ≡ false →
             window_counted (outcome_of false v (take 10 (measured_of v mode s ∷ last))) (tallied (out_of v mode s) s.speed (tally_of v mode l)) ≡
             tally_of v mode (s ∷ l)
-        unfolding outcome_of tallied window_counted one_more kept_with tally_of in_row in_all out_row out_all row_of all_of passing_in failing_in invalid_in some_valid passes_here fails_here pick
+        unfolding outcome_of tallied window_counted one_more kept_with tally_of in_row in_all out_row out_all row_of all_of passing_in failing_in invalid_here invalid_in some_valid passes_here fails_here pick
         tally_invalid e =
             let h : valid_here v mode (s ∷ l) ≡ false = sym taken_here ∙ e in
-            let i = not_valid v mode (s ∷ l) h in
             let a : min (length l + 1) 255 ≡ suc (length l) = omega arith in
             let b : min (out_row v mode l + 1) 255 ≡ suc (out_row v mode l) = omega arith in
             let c : min (out_all v mode l + 1) 255 ≡ suc (out_all v mode l) = omega arith in
@@ -131,21 +110,20 @@ module _
             let f = first_more _ s.speed (speeds_of l) number in
             let g = held_more _ s.speed (speeds_of l) number in
             on_pick (λ (k : MeasuringCounts). k ≡ tally_of v mode (s ∷ l)) (leb 10 (bump (length l))) _ _
-            (λ t. let j : leb 10 (suc (length l)) ≡ true = ap (leb 10) (sym a) ∙ t in simp (h, i, j, a, b, c, d, f, g))
-            (λ t. let j : leb 10 (suc (length l)) ≡ false = ap (leb 10) (sym a) ∙ t in simp (h, i, j, a, b, c, f, g))
+            (λ t. let j : leb 10 (suc (length l)) ≡ true = ap (leb 10) (sym a) ∙ t in simp (h, j, a, b, c, d, f, g))
+            (λ t. let j : leb 10 (suc (length l)) ≡ false = ap (leb 10) (sym a) ∙ t in simp (h, j, a, b, c, f, g))
 
         -- One more second, where its window is valid.
         tally_valid :
             window_taken (bump (length l)) (take 10 (measured_of v mode s ∷ last)) ≡ true →
             window_counted (outcome_of true v (take 10 (measured_of v mode s ∷ last))) (tallied (out_of v mode s) s.speed (tally_of v mode l)) ≡
             tally_of v mode (s ∷ l)
-        unfolding outcome_of tallied window_counted tally_of in_row in_all out_row out_all row_of all_of passing_in failing_in invalid_in some_valid passes_here fails_here pick
+        unfolding outcome_of tallied window_counted tally_of in_row in_all out_row out_all row_of all_of passing_in failing_in invalid_here invalid_in some_valid passes_here fails_here pick
         tally_valid e =
             let h : valid_here v mode (s ∷ l) ≡ true = sym taken_here ∙ e in
             let w : take 10 (measured_of v mode s ∷ last) ≡ window_of v mode (s ∷ l) = valid_window h in
             let ten : 10 ≤ suc (length l) = valid_ten v mode (s ∷ l) h in
             let t : leb 10 (suc (length l)) ≡ true = le-leb _ _ ten in
-            let i : invalid_here v mode (s ∷ l) ≡ false = valid_not v mode (s ∷ l) h in
             let a : min (length l + 1) 255 ≡ suc (length l) = omega arith in
             let b : min (out_row v mode l + 1) 255 ≡ suc (out_row v mode l) = omega arith in
             let c : min (out_all v mode l + 1) 255 ≡ suc (out_all v mode l) = omega arith in
@@ -155,7 +133,7 @@ module _
             let j = held_more _ s.speed (speeds_of l) number in
             let q = valid_more (window_passes v (window_of v mode (s ∷ l))) in
             let r = valid_kept (window_passes v (window_of v mode (s ∷ l))) in
-            simp (w, h, i, t, a, b, c, d, f, g, j, q, r)
+            simp (w, h, t, a, b, c, d, f, g, j, q, r)
 
         -- One more second, whatever its window is.
         pub tally_more :

@@ -24,11 +24,10 @@ use Rattle.loaded_test.specs.declared.Progress.{Progress}
 use Rattle.loaded_test.specs.declared.Turn.{Turn}
 use Rattle.loaded_test.specs.State.{emptied, turn, with_verdict, verdict_of}
 use Rattle.attempt.specs.Counting.{bump, in_row}
-use Rattle.attempt.specs.Laws.{Accounted}
 use Rattle.loaded_test.specs.Voids.{ended, mode_ended, void_counted, void_next, twice_inconclusive, third_void, void_followed, voided, step_five}
 use Rattle.loaded_test.specs.Log.{Entry, Input}
 use Rattle.loaded_test.specs.Claim.{mode_after, mode_in, begins, voids, begun}
-use Rattle.loaded_test.specs.Laws.{Bounded, void_added, voids_kept, voids_in, nines_in, ModeOver}
+use Rattle.loaded_test.specs.Laws.{Bounded, void_added, voids_kept, voids_in, nines_in, ModeOver, VerdictAccounted}
 use Rattle.loaded_test.proofs.Counting.{attempt_begins}
 use Rattle.loaded_test.proofs.Holding.{most_settling, Told, Claims, Good, entry}
 
@@ -76,10 +75,6 @@ fewer_not_three k e = eqb-false _ _ e
 abbrev pub Reason : List Entry → Did → Verdict → Type 0
 Reason log d x =
     (nines_in (void_added d (voids_in log)) ≡ 2) ⊎ ((x.t ≡ 90) × (x.passing < 15) × (25 ≤ x.failing))
-
--- A verdict's windows are all accounted for.
-abbrev pub Exact : Verdict → Type 0
-Exact x = Accounted x.t x.passing x.failing x.invalid
 
 module _ (v : Vehicle) (i : Input) (log : List Entry) where
   -- Nothing is claimed of an entry that voids nothing and ends nothing.
@@ -137,7 +132,7 @@ module _ (v : Vehicle) (i : Input) (log : List Entry) where
         };
         incomplete = λ w. absurd (fail_incomplete (ap (λ (x : Verdict). x.word) (same_end w.1) ∙ w.2));
         fail = λ y e w. (sym mode, subst (λ (x : Verdict). Reason log d x) (same_end e) reason);
-        accounted = λ y e. subst Exact (same_end e) b.accounted;
+        accounted = λ y e. subst VerdictAccounted (same_end e) b.accounted;
       };
     }
 
@@ -160,7 +155,7 @@ module _ (v : Vehicle) (i : Input) (log : List Entry) where
         };
         incomplete = λ w. (three, nines);
         fail = λ y e w. absurd (fail_incomplete (sym (ap (λ (x : Verdict). x.word) (same_end e) ∙ w)));
-        accounted = λ y e. subst Exact (same_end e) b.accounted;
+        accounted = λ y e. subst VerdictAccounted (same_end e) b.accounted;
       };
     }
 

@@ -112,10 +112,14 @@ FailClaim (e ∷ log) =
     (mode_in log ≡ Two) ×
     ((nines_in (void_added e.did (voids_in log)) ≡ 2) ⊎ ((x.t ≡ 90) × (x.passing < 15) × (25 ≤ x.failing)))
 
--- Wherever the newest entry tells a verdict: "or with a verdict given in measuring"; in one that is given before measuring t is 0.
+-- "or with a verdict given in measuring"; in one that is given before measuring t is 0.
+abbrev pub VerdictAccounted : Verdict → Type 0
+VerdictAccounted x = Accounted x.t x.passing x.failing x.invalid
+
+-- Wherever the newest entry tells a verdict.
 abbrev pub AccountedClaim : List Entry → Type 0
 AccountedClaim [] = Unit {0}
-AccountedClaim (e ∷ log) = (x : Verdict) → e.next ≡ Ends x → Accounted x.t x.passing x.failing x.invalid
+AccountedClaim (e ∷ log) = (x : Verdict) → e.next ≡ Ends x → VerdictAccounted x
 
 -- In measuring, the last ten seconds are the last ten measured ones, or all where there are fewer.
 pub record LastTen (v : Vehicle) (log : List Entry) (last : List Measured) : Type 0 where

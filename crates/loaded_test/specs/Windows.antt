@@ -55,9 +55,9 @@ unfoldable pub failing_in : Vehicle → Mode → List Second → ℕ
 failing_in v mode [] = 0
 failing_in v mode (s ∷ l) = pick (fails_here v mode (s ∷ l)) (suc (failing_in v mode l)) (failing_in v mode l)
 
--- "Invalid" (document 02, A.8): the window ending here, from t = 10, that is not valid.
+-- "Invalid" (document 02, A.8): from t = 10, the window ending here is not valid.
 unfoldable pub invalid_here : Vehicle → Mode → List Second → Bool
-invalid_here v mode l = leb 10 (length l) && not (window_valid (window_of v mode l))
+invalid_here v mode l = leb 10 (length l) && not (valid_here v mode l)
 
 -- The windows of a run that are not valid.
 unfoldable pub invalid_in : Vehicle → Mode → List Second → ℕ
