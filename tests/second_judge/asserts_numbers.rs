@@ -33,7 +33,7 @@ pub fn check_readings(checks: &mut Checks) {
     checks.same("quiet NaN", units(8, 0x7FC0_0001), None);
     checks.same("negative NaN", units(8, 0xFFC0_0000), None);
     checks.same("signalling NaN", units(8, 0x7F80_0001), None);
-    let greatest = [999, 999, 9999, 9999, 2000, 5000, 180, 250];
+    let greatest = [999, 999, 9999, 9999, 2000, 5000, 1800, 250];
     for code in 1..=8u8 {
         let most = greatest[code as usize - 1];
         checks.same(
@@ -78,10 +78,10 @@ pub fn check_rounding(checks: &mut Checks) {
 }
 
 pub fn check_corrections(checks: &mut Checks) {
-    checks.same("DCF 120 100", dilution_factor(120, 100), 1_205_807);
+    checks.same("DCF 1200 100", dilution_factor(1200, 100), 1_205_807);
     checks.same("DCF 0 600", dilution_factor(0, 600), 3_000_000);
-    checks.same("DCF 153 0", dilution_factor(153, 0), 1_001_831);
-    checks.same("DCF 154 0", dilution_factor(154, 0), 1_000_000);
+    checks.same("DCF 1530 0", dilution_factor(1530, 0), 1_001_831);
+    checks.same("DCF 1540 0", dilution_factor(1540, 0), 1_000_000);
     checks.same("DCF 0 0", dilution_factor(0, 0), 3_000_000);
     checks.same("k r 0", humidity_factor(0, 2339, 1013), 739_449);
     checks.same("k r 50", humidity_factor(50, 2339, 1013), 897_914);
@@ -183,7 +183,7 @@ pub fn check_windows(checks: &mut Checks) {
         let limits = car.limits();
         let at = [limits.hc, limits.co, limits.no].map(|limit| 10 * limit as i64);
         let line = |sums: [i64; 3]| {
-            let ten = ten_seconds(&car, 1, sums, 180);
+            let ten = ten_seconds(&car, 1, sums, 1800);
             window_line(1, &settings, p, &ten).unwrap_or_default()
         };
         // The engine speeds go by the HC sum.

@@ -215,14 +215,15 @@ pub fn check_named(checks: &mut Checks) {
         ("open_rest", "open 1 0 0 0 0 - - - -"), ("open_restart", "open 1 4 0 0 0 - - - -"),
         ("open_two", "open 2 0 0 0 0 - - - -"), ("open_two_rest", "open 2 0 0 0 0 - - - -"),
         ("open_two_restart", "open 2 4 0 0 0 - - - -"),
-        ("engine_half_each", "open 1 13 4 0 0 121 121 25 4000"), ("engine_half_up", "open 1 13 4 0 0 121 121 25 4000"),
+        ("engine_half_each", "open 1 13 4 0 0 121 121 25 4000"), ("engine_half_up", "open 1 13 4 0 0 120 120 24 4000"),
         ("engine_half_down", "open 1 13 4 0 0 121 121 25 3999"), ("engine_older", "open 1 14 3 0 2 121 121 25 "),
         ("engine_one_missing", "open 1 13 4 0 0 121 121 25 -"), ("engine_last_missing", "open 1 13 4 0 0 121 121 25 -"),
         ("engine_zero", "open 1 13 4 0 0 121 121 25 0"),
         ("dip_eight", "pass 1 25 16 0 0 "), ("dip_nine", "pass 1 90 81 0 0 "), ("dip_eleventh", "pass 1 25 16 0 0 "),
         ("dip_forgotten", "pass 1 25 16 0 0 "), ("slow_fall", "open 1 25 16 0 0 "),
         ("wide_beside", "pass 1 25 16 0 0 "), ("wide_many", "pass 1 25 16 0 0 "),
-        ("invalid", "pass 1 30 15 0 6 121 121 217 -"),
+        ("invalid", "pass 1 30 15 0 6 121 121 217 -"), ("hundredths", "incomplete 1 24 15 0 0 120 120 216 -"),
+        ("hundredths_ready", "open 1 1 0 0 0 - - - -"), ("hundredths_pass", "pass 1 "),
     ];
     for name in RECORDS {
         let line = sample(name).map_or(String::new(), |bytes| rejudge_line(&bytes));

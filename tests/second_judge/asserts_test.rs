@@ -53,7 +53,7 @@ pub fn check_settling(checks: &mut Checks) {
     let settling = |c, n, g, u, w| {
         state("nothing goes-on", 1, "settling", [c, n, g, 0, u, w, 0, 0, 0, 0, 0])
     };
-    let sum = |s: &mut Script, co| s.seconds(1, |w| (w.units[4], w.units[6]) = (co, 50));
+    let sum = |s: &mut Script, co| s.seconds(1, |w| (w.units[4], w.units[6]) = (co, 500));
     let line = last_line(|s| { s.clean(4); sum(s, 100) });
     checks.same("sum 600 is not ready", line, settling(5, 5, 0, 0, 0));
     let line = last_line(|s| { s.clean(4); sum(s, 101) });
@@ -214,7 +214,7 @@ pub fn check_kept(checks: &mut Checks) {
     same("n = 25 on c = 145", |s| { s.void_and_rest(1); s.void_and_rest(2); s.far(120); s.unready(25) },
         "void-7 ends-incomplete mode 1 c 145 n 25 g 0 t 0 u 0 w 0 passing 0 failing 0 invalid 0 rest 0 r 3 q 0 engine -");
     same("void 5 in settling keeps", |s| { s.void_and_rest(1); s.void_and_rest(2); s.clean(3); s.far(1);
-            s.seconds(1, |w| (w.units[4], w.units[6]) = (99, 50)) },
+            s.sum(599) },
         "void-5 ends-incomplete mode 1 c 5 n 4 g 0 t 0 u 1 w 1 passing 0 failing 0 invalid 0 rest 0 r 3 q 0 engine -");
     same("void 6 on the first second", |s| { s.void_and_rest(1); s.void_and_rest(2);
             s.seconds(1, |w| w.over = 7) },

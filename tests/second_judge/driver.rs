@@ -21,7 +21,7 @@ pub struct Driver {
 
 impl Driver {
     pub fn new(car: Vehicle, dice: &mut Dice) -> Driver {
-        let mut script = Script::new(car, dice.next());
+        let mut script = Script::mixed(car, dice.next());
         script.noise = dice.pick(&[0, 0, 1, 1, 2, 4]);
         let temper = dice.pick(&[0, 0, 1, 1, 2, 2, 3, 3, 4, 5]);
         Driver {
@@ -135,7 +135,7 @@ fn plan_clumsy(s: &mut Script) {
             s.stop(cause);
         }
         3 => s.seconds(1, |w| w.over = 6),
-        4 => s.seconds(1, |w| (w.units[4], w.units[6]) = (99, 50)),
+        4 => s.diluted(),
         5 => some_dip(s, 25),
         _ => {
             let count = s.dice.within(1, 20) as usize;
@@ -181,6 +181,9 @@ pub fn unfit_bits(code: u8, automatic: bool, dice: &mut Dice) -> u32 {
             5 => 0x7FC0_0001,
             6 => 0xFF80_0001 + dice.below(0x7F_FFFE) as u32,
             7 => 0x7F80_0001 + dice.below(0x7F_FFFE) as u32,
+            // CO2 also where it was fit in tenths.
+            8 if code == 7 => number(dice.pick(&[-1.0, -4.0, -6.0])),
+            9 if code == 7 => number(1800.0 + dice.pick(&[0.6, 4.0, 4.9, 6.0])),
             8 => number(-1.0),
             9 => number(GREATEST[code as usize - 1] as f64 + 0.6),
             10 => 0x7F7F_FFFF,

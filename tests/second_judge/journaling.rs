@@ -237,7 +237,8 @@ pub fn journal_lines(bytes: &[u8]) -> Vec<String> {
         .unwrap_or_else(|refusal| vec![refusal.to_string()])
 }
 
-fn start_lines(journal: &Journal) -> Result<Vec<String>, Refusal> {
+/// A line for each start of a journal that reads.
+pub fn start_lines(journal: &Journal) -> Result<Vec<String>, Refusal> {
     let mut bench = Bench::new(journal.v, journal.u)?;
     let mut lines = Vec::new();
     for (clock, event) in &journal.events {

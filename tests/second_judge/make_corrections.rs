@@ -43,29 +43,50 @@ fn put_limits(out: &mut Vec<u8>, car: [u16; 3], mode: u8, load: u16, engine: u16
 /// Gas pairs at the corners of DCF: D = 0, both clamps, and D near which
 /// 10^13/D passes a half.
 fn put_dcf_corners(out: &mut Vec<u8>) {
-    for a in [0, 1, 50, 51, 52, 120, 152, 153, 154, 180, 999, 65535] {
+    for a in [
+        0, 1, 9, 510, 511, 520, 1200, 1204, 1530, 1532, 1533, 1540, 1800, 9990, 65535,
+    ] {
         for b in [
             0, 1, 14, 15, 100, 600, 717, 718, 719, 2000, 2153, 2154, 65535,
         ] {
             put_dcf(out, a, b);
         }
     }
-    let mut close: Vec<(u128, u16, u16)> = Vec::new();
-    for a in 0..=180u16 {
+    // Held where tenths would not be, the other way round, and between.
+    for (a, b) in [
+        (506, 2),
+        (1526, 8),
+        (1534, 0),
+        (546, 53),
+        (1204, 100),
+        (1196, 100),
+    ] {
+        put_dcf(out, a, b);
+    }
+    for (a, b) in pairs_at_a_half() {
+        put_dcf(out, a, b);
+    }
+}
+
+/// The pairs whose 10^13/D is nearest to a half.
+fn pairs_at_a_half() -> Vec<(u16, u16)> {
+    let mut close: Vec<(u64, u16, u16)> = Vec::new();
+    for a in 0..=1800u16 {
         for b in 0..=2000u16 {
-            let d = 65_240 * a as u128 + 4_644 * b as u128;
+            let d = 6_524 * a as u64 + 4_644 * b as u64;
             if d > 3_333_333 && d < 10_000_000 {
                 // How far 2·10^13/D is from an odd whole number, in 1/D.
                 let over = (20_000_000_000_000 + d) % (2 * d);
-                close.push((over.min(2 * d - over), a, b));
+                let off = over.min(2 * d - over);
+                if off < 500 {
+                    close.push((off, a, b));
+                }
             }
         }
     }
     close.sort();
-    close
-        .iter()
-        .take(60)
-        .for_each(|(_, a, b)| put_dcf(out, *a, *b));
+    close.truncate(60);
+    close.iter().map(|(_, a, b)| (*a, *b)).collect()
 }
 
 fn put_k_corners(out: &mut Vec<u8>) {
@@ -103,12 +124,11 @@ pub fn air_of(k: u128) -> Option<(u16, u16, u16)> {
     None
 }
 
-/// CO2 and CO for which DCF is exactly that many millionths.
-fn gas_of(dcf: u128) -> Option<(i64, i64)> {
-    let pairs = (0..=180).flat_map(|a| (0..=300).map(move |b| (a, b)));
-    pairs
-        .into_iter()
-        .find(|(a, b)| dilution_factor(*a as u128, *b as u128) == dcf)
+/// CO2, no multiple of ten, and CO for which DCF is exactly that many millionths.
+pub fn gas_of(dcf: u128) -> Option<(i64, i64)> {
+    let between = (0..=1800).filter(|a| a % 10 != 0);
+    let mut pairs = between.flat_map(|a| (0..=300).map(move |b| (a, b)));
+    pairs.find(|(a, b)| dilution_factor(*a as u128, *b as u128) == dcf)
 }
 
 /// Ten values whose sum is exact.
@@ -169,7 +189,7 @@ fn put_limit_windows(out: &mut Vec<u8>, turn: usize, dcf: u128, k: u128) {
             put_window(out, mode, &settings, p, &ten);
             // CO moves D itself: only where DCF is held at its least.
             if dcf == 1_000_000 {
-                let ten = ten_seconds(&car, mode, [hc, most_co + step, no], 180);
+                let ten = ten_seconds(&car, mode, [hc, most_co + step, no], 1800);
                 put_window(out, mode, &settings, p, &ten);
             }
         }
@@ -182,7 +202,7 @@ fn put_co_windows(out: &mut Vec<u8>) {
         let settings = [class[0], class[1], class[2], 2, 50, 20, 1013];
         let car = Vehicle::new(&settings, 2339);
         let limit = car.limits().co * 10u128.pow(7);
-        for co2 in [60, 90, 110] {
+        for co2 in [601, 905, 1109] {
             let sum_of = |sum: i64| -> u128 {
                 let each = |b: &i64| *b as u128 * dilution_factor(co2 as u128, *b as u128);
                 spread(sum).iter().map(each).sum()
@@ -210,7 +230,7 @@ fn put_half_windows(out: &mut Vec<u8>) {
             1,
             &settings,
             p,
-            &ten_seconds(&car, 1, [sum, sum, sum], 170),
+            &ten_seconds(&car, 1, [sum, sum, sum], 1703),
         );
     }
     for i in [0, 9] {
@@ -262,7 +282,7 @@ fn put_engine_windows(out: &mut Vec<u8>) {
 /// A window with those engine speeds, −1 one that is missing.
 fn put_engine_window(out: &mut Vec<u8>, settings: &[u16; 7], speeds: &[i64]) {
     let car = Vehicle::new(settings, 2339);
-    let mut ten = ten_seconds(&car, 1, [1000, 1000, 1000], 120);
+    let mut ten = ten_seconds(&car, 1, [1000, 1000, 1000], 1200);
     for (second, speed) in ten.iter_mut().zip(speeds) {
         second[2] = match speed {
             -1 => MISSING,
@@ -274,7 +294,7 @@ fn put_engine_window(out: &mut Vec<u8>, settings: &[u16; 7], speeds: &[i64]) {
 
 fn put_changed_window(out: &mut Vec<u8>, s: &[u16; 7], p: u16, i: usize, code: u8, bits: u32) {
     let car = Vehicle::new(s, p);
-    let mut ten = ten_seconds(&car, 1, [1000, 1000, 1000], 120);
+    let mut ten = ten_seconds(&car, 1, [1000, 1000, 1000], 1200);
     ten[i][code as usize - 1] = bits;
     put_window(out, 1, s, p, &ten);
     let automatic = [s[0], s[1], s[2], 2, s[4], s[5], s[6]];
@@ -312,22 +332,22 @@ fn put_limit_corners(out: &mut Vec<u8>) {
     }
 }
 
+/// DCF and k of the windows at the limits. All DCF but the last divide limit·10^7 of HC without
+/// rest, so that a sum just meets it.
+pub const FACTORS: [(u128, u128); 5] = [
+    (1_000_000, 1_000_000),
+    (1_000_000, 1_250_000),
+    (1_171_875, 1_250_000),
+    (2_000_000, 800_000),
+    (1_202_025, 897_914),
+];
+
 pub fn make_corrections(seed: u64, count: usize) -> Vec<u8> {
     let mut dice = Dice(seed ^ 0x636F_7272);
     let mut out = Vec::new();
     put_dcf_corners(&mut out);
     put_k_corners(&mut out);
-    let factors = [
-        (1_000_000, 1_000_000),
-        (1_000_000, 1_250_000),
-        (1_250_000, 1_250_000),
-        (2_000_000, 800_000),
-        (1_100_000, 897_914),
-        (1_333_334, 897_914),
-        (1_600_000, 897_914),
-        (1_205_807, 897_914),
-    ];
-    for (turn, (dcf, k)) in factors.into_iter().enumerate() {
+    for (turn, (dcf, k)) in FACTORS.into_iter().enumerate() {
         put_limit_windows(&mut out, turn, dcf, k);
     }
     put_co_windows(&mut out);
@@ -345,7 +365,11 @@ fn put_random_correction(out: &mut Vec<u8>, dice: &mut Dice) {
     let p = dice.within(500, 4300) as u16;
     let mode = dice.pick(&[1, 2]);
     match dice.below(8) {
-        0 => put_dcf(out, dice.within(0, 200) as u16, dice.within(0, 2100) as u16),
+        0 => put_dcf(
+            out,
+            dice.within(0, 2000) as u16,
+            dice.within(0, 2100) as u16,
+        ),
         1 => put_dcf(out, dice.next() as u16, dice.next() as u16),
         2 => put_k(out, &settings, p),
         3 => {

@@ -39,7 +39,7 @@ fn planned_events(v: u32, u: u16, count: usize, brief: bool, dice: &mut Dice) ->
     let mut events = Vec::new();
     while events.len() < count {
         if let (true, true, Some(test)) = (brief, queue.is_empty(), &bench.test) {
-            let script = Script::new(test.car, dice.next());
+            let script = Script::mixed(test.car, dice.next());
             queue.extend(brief_test(script, bench.last, dice));
             if dice.percent(20) {
                 let wait = dice.pick(&[1800, 1801, 1802]);
@@ -62,7 +62,7 @@ fn brief_test(mut script: Script, last: u32, dice: &mut Dice) -> Vec<(u32, Event
         match dice.below(3) {
             0 => script.stop(dice.within(1, 4) as u8),
             1 => script.seconds(1, |w| w.over = 4),
-            _ => script.sum(599),
+            _ => script.diluted(),
         }
         if rest {
             script.rest();

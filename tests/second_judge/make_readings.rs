@@ -47,6 +47,12 @@ const PATTERNS: [u32; 28] = [
     0xFFFF_FFFF,
 ];
 
+/// CO2 between tenths, and where it was fit in tenths and is not, or only just.
+const CO2: [f32; 14] = [
+    12.04, 12.05, 12.06, 5.45, 5.46, 0.05, -0.004, -0.005, -0.006, -0.04, 18.005, 18.01, 18.04,
+    18.05,
+];
+
 /// Each rounding boundary (n − 1/2)/s and the patterns next to it.
 fn boundary_bits(code: u8) -> Vec<u32> {
     let i = code as usize - 1;
@@ -75,6 +81,11 @@ pub fn make_readings(seed: u64, count: usize) -> Vec<u8> {
     let mut dice = Dice(seed ^ 0x756E_6974);
     let mut out = Vec::new();
     put_reading(&mut out, 5, 1, 0x3F80_A3D7);
+    for bits in [0x4190_0A3D, 0x4190_0A3E] {
+        put_reading(&mut out, 7, 1, bits); // just below 18.005, and above
+    }
+    CO2.iter()
+        .for_each(|v| put_reading(&mut out, 7, 1, v.to_bits()));
     for code in 1..=8u8 {
         for gearbox in [1, 2] {
             PATTERNS

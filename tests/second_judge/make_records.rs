@@ -202,7 +202,7 @@ pub fn damaged_record(way: usize, dice: &mut Dice) -> Vec<u8> {
 /// A small fit record: few rows, few stops.
 pub fn short_content(dice: &mut Dice) -> Content {
     let site = Site::some(dice);
-    let mut script = Script::new(site.car(), dice.next());
+    let mut script = Script::mixed(site.car(), dice.next());
     let rows = dice.below(5) as usize;
     script.clean(rows);
     for cause in 1..=dice.below(4) as u8 {
@@ -349,7 +349,7 @@ fn damage_cells(way: usize, content: &mut Content, dice: &mut Dice) {
 fn after_verdict(way: usize, dice: &mut Dice) -> Content {
     let site = Site::some(dice);
     let car = site.car();
-    let mut script = Script::new(car, dice.next());
+    let mut script = Script::mixed(car, dice.next());
     match dice.below(3) {
         0 => script.pass(),
         1 => [1, 2, 3]
@@ -362,7 +362,7 @@ fn after_verdict(way: usize, dice: &mut Dice) -> Content {
         }
     }
     let mut items = until_verdict(car, &script.items);
-    let mut bits = encode(&script.good(), car.automatic, dice);
+    let mut bits = encode(&script.next_good(), car.automatic, dice);
     match way {
         19 => items.push(Item::Second(bits)),
         20 => items.push(Item::Stop(dice.within(1, 4) as u8)),

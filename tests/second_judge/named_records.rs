@@ -3,7 +3,7 @@
 use crate::channels::Form;
 use crate::dice::Dice;
 use crate::make_channels::{longest_narrow, longest_wide, with_channel};
-use crate::make_records::{content_of, Site};
+use crate::make_records::{content_of, until_verdict, Site};
 use crate::numbers::{MISSING, OVER};
 use crate::record::Content;
 use crate::script::Script;
@@ -29,9 +29,31 @@ fn invalid_listing() -> Content {
     content
 }
 
-/// Small records by name: each ends in another way, or has its engine speed, its dip, its channels or
-/// its invalid windows for another reason.
-pub const RECORDS: [&str; 50] = [
+/// A record from before hundredths. Its CO2 is 12.04 %, so that the averages are 120 120 216, not 121 121 217.
+/// On its last row CO2 is 5.46 % and CO 0.53 %, a sum of 599: the third void, and so
+/// `incomplete 1 24 15 0 0 120 120 216 -`. By tenths, 12.0 % and 5.5 %, the sum was 603, and the line
+/// `pass 1 25 16 0 0 135 122 242 -`.
+fn hundredths_listing() -> Content {
+    let row =
+        |speed: f32, co: f32, co2: f32| [speed, 0.85, 100.0, co, 200.0, co2].map(f32::to_bits);
+    let (moving, standing) = (row(25.0, 1.0, 12.04), row(0.0, 1.0, 12.04));
+    let attempt = [&moving[..], &standing.repeat(10)].concat();
+    Content {
+        cells: [
+            attempt.repeat(2),
+            moving.repeat(35),
+            row(25.0, 0.53, 5.46).to_vec(),
+        ]
+        .concat(),
+        stop_rows: vec![1, 12],
+        stop_causes: vec![1, 2],
+        ..listing(0)
+    }
+}
+
+/// Small records by name: each ends in another way, or has its engine speed, its dip, its channels,
+/// its invalid windows or its CO2 for another reason.
+pub const RECORDS: [&str; 55] = [
     "pass_rising",
     "pass_out",
     "pass_ninety",
@@ -82,6 +104,11 @@ pub const RECORDS: [&str; 50] = [
     "refused_8_wide",
     "refused_19",
     "invalid",
+    "hundredths",
+    "hundredths_ready",
+    "hundredths_pass",
+    "refused_8_above",
+    "refused_8_below",
 ];
 
 /// How many of RECORDS come before those about the wide form.
@@ -105,8 +132,10 @@ pub fn small_record(name: &str) -> Option<Vec<u8>> {
 
 /// The content of a record of RECORDS, unfit where its name says so.
 pub fn small_content(name: &str) -> Option<Content> {
-    if name == "invalid" {
-        return Some(invalid_listing());
+    match name {
+        "invalid" => return Some(invalid_listing()),
+        "hundredths" => return Some(hundredths_listing()),
+        _ => {}
     }
     let place = RECORDS.iter().position(|known| *known == name)?;
     let moped = name.contains("two") || name.ends_with("inconclusive");
@@ -126,9 +155,11 @@ pub fn small_content(name: &str) -> Option<Content> {
     };
     let codes = small_codes(name, moped, layout);
     let mut script = Script::new(site.car(), place as u64);
+    script.tenths = true;
     match name.strip_prefix("refused_") {
         Some(_) => small_refused(name, &mut script),
         None if engine => small_engine(name, &mut script),
+        None if name.starts_with("hundredths") => small_hundredths(name, &mut script),
         None => small_test(name, &mut script),
     }
     let mut content = content_of(&site, codes, &script.items, &mut Dice(place as u64));
@@ -227,6 +258,22 @@ fn small_engine(name: &str, s: &mut Script) {
     }
 }
 
+/// The tests that tenths would judge otherwise.
+fn small_hundredths(name: &str, s: &mut Script) {
+    s.tenths = false;
+    match name {
+        // Left open while measuring: by tenths void 5 on row 5, and so in rest.
+        "hundredths_ready" => {
+            s.settle_by_hundredths();
+            s.sum_with(601, 553);
+        }
+        _ => {
+            s.pass_by_hundredths();
+            s.items = until_verdict(s.car, &s.items);
+        }
+    }
+}
+
 /// The seconds and stops of a record that is refused.
 #[rustfmt::skip]
 fn small_refused(name: &str, s: &mut Script) {
@@ -244,7 +291,8 @@ fn small_refused(name: &str, s: &mut Script) {
 fn damage_small(name: &str, content: &mut Content) {
     let channels = content.codes.len();
     let column = |code: u16| content.codes.iter().position(|c| *c == code);
-    let (load, engine) = (column(2), column(3));
+    let (load, engine, co2) = (column(2), column(3), column(7));
+    let row_2 = |column: Option<usize>| channels + column.unwrap_or(0);
     match name {
         "refused_2" => content.saturation.truncate(28),
         "refused_3" => content.codes[channels - 1] = content.codes[0],
@@ -252,7 +300,10 @@ fn damage_small(name: &str, content: &mut Content) {
         "refused_5" => content.saturation[28] = content.saturation[27],
         "refused_6" => content.stop_rows[1] = 1,
         "refused_6_left" => content.stop_causes[1] = 5,
-        "refused_8" | "refused_8_wide" => content.cells[channels + load.unwrap_or(0)] = OVER,
+        "refused_8" | "refused_8_wide" => content.cells[row_2(load)] = OVER,
+        // A CO2 that was fit in tenths.
+        "refused_8_above" => content.cells[row_2(co2)] = 18.04f32.to_bits(),
+        "refused_8_below" => content.cells[row_2(co2)] = (-0.04f32).to_bits(),
         "refused_8_absent" => {
             content.settings[3] = 1;
             engine.map(|column| content.codes[column] = 77);
@@ -296,6 +347,7 @@ pub fn sample(name: &str) -> Option<Vec<u8>> {
         saturation: listing(0).saturation,
     };
     let mut script = Script::new(site.car(), 7);
+    script.tenths = true;
     match name {
         "pass" | "unfit" => script.pass(),
         // As "pass", but for second 6: the pass comes at t = 90.

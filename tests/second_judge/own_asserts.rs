@@ -11,6 +11,10 @@ use crate::asserts_coast_down::{
 };
 use crate::asserts_dips::check_dips;
 use crate::asserts_engine::{check_engines, check_gathered, check_means};
+use crate::asserts_hundredths::{
+    check_apart, check_co2, check_corrections_made, check_dcf, check_hundredths,
+    check_hundredths_names, check_older,
+};
 use crate::asserts_journals::{
     check_journal_bytes, check_journal_items, check_journal_parameters, check_journal_reading,
     check_journal_round_trips, check_journal_vectors, check_journal_writer, check_named_journals,
@@ -202,11 +206,18 @@ fn check_least(checks: &mut Checks) {
 }
 
 /// All the asserts, in their order.
-const CHECKS: [fn(&mut Checks); 66] = [
+const CHECKS: [fn(&mut Checks); 73] = [
     check_readings,
     check_rounding,
     check_corrections,
     check_windows,
+    check_co2,
+    check_dcf,
+    check_corrections_made,
+    check_hundredths,
+    check_older,
+    check_apart,
+    check_hundredths_names,
     check_means,
     check_settling,
     check_measuring,

@@ -8,6 +8,7 @@ use crate::make_tests::kind_of;
 use crate::numbers::Refusal;
 use crate::reach::{names, texts, Reach};
 use crate::reach_dips::{dips_in_events, Runs};
+use crate::reach_hundredths::{hundredths_in_events, unfit_co2_in, Twin};
 use crate::reach_prepares::{prepare_names, Refused};
 use crate::reach_runs::{reach_run_refused, reach_start, run_names};
 use crate::reach_tests::{second_in, units_of};
@@ -82,6 +83,7 @@ fn required_of_events() -> Vec<String> {
     required.extend(prepare_names());
     required.extend(dips_in_events());
     required.extend(windows_in_events());
+    required.extend(hundredths_in_events());
     required
 }
 
@@ -115,11 +117,12 @@ pub fn reach_events(data: &[u8]) -> Reach {
     reach
 }
 
-/// What the tests show of dips and of invalid windows.
+/// What the tests show of dips, of invalid windows and of CO2 in hundredths.
 #[derive(Default)]
 struct Shown {
     runs: Runs,
     windows: Windows,
+    twin: Option<Twin>,
 }
 
 impl Shown {
@@ -132,9 +135,13 @@ impl Shown {
             let windows = self.windows.step(&car, second, &step);
             let names = dips.into_iter().chain(windows);
             names.for_each(|name| reach.count(name));
+            let twin = self.twin.get_or_insert_with(|| Twin::new(car));
+            let apart = twin.step(event, &step).into_iter();
+            apart.for_each(|name| reach.count(name));
         }
         if test.ended || *event == Event::PowerOn {
             self.windows = Windows::default();
+            self.twin = None;
         }
     }
 }
@@ -186,6 +193,8 @@ impl Trail {
         }
         if refusal.number == 8 {
             self.unfit_second = Some(clock);
+            let apart = unfit_co2_in(event).filter(|_| refusal.place == 7);
+            apart.map(|name| reach.count(name));
         }
         if let Event::Run(run) = event {
             reach_run_refused(reach, run, refusal);

@@ -7,6 +7,7 @@ use crate::journaling::{read_journal, Journal, COUNT_AT, EVENTS_AT, MOST_EVENTS}
 use crate::make_tests::kind_of;
 use crate::numbers::{Refusal, MISSING, OVER};
 use crate::reach::{names, texts, Reach};
+use crate::reach_hundredths::{hundredths_in_journals, lines_name};
 use crate::reach_starts::{reach_starts, start_names};
 use crate::reach_whys::{reach_whys, why_names};
 use crate::record::{u16_at, u32_at};
@@ -147,6 +148,7 @@ fn required() -> Vec<String> {
     );
     required.extend(start_names());
     required.extend(why_names());
+    required.extend(hundredths_in_journals());
     required
 }
 
@@ -194,6 +196,7 @@ fn reach_fit(reach: &mut Reach, bytes: &[u8], journal: &Journal) {
     reach_bench(reach, journal);
     reach_starts(reach, journal);
     reach_whys(reach, journal);
+    lines_name(journal).map(|name| reach.count(name));
 }
 
 fn reach_fields(reach: &mut Reach, event: &Event) {

@@ -7,6 +7,7 @@ use crate::reach::{names, texts, Reach};
 use crate::reach_channels::{read_names, Seen};
 use crate::reach_dips::{dips_in_records, Runs};
 use crate::reach_engines::{Engines, ON_THE_SHEET};
+use crate::reach_hundredths::{hundredths_in_records, names_in_record, unfit_co2_at};
 use crate::reach_windows::{windows_in_records, Windows};
 use crate::record::{read_record, u16_at, Record};
 use crate::rejudging::rejudge;
@@ -77,6 +78,7 @@ pub fn reach_records(data: &[u8]) -> Reach {
     required.extend(texts(&ON_THE_SHEET));
     required.extend(dips_in_records());
     required.extend(windows_in_records());
+    required.extend(hundredths_in_records());
     required.extend(names("void ", 1..=9));
     required.extend(names("refused ", 1..=9));
     required.extend(texts(&["refused 19"]));
@@ -131,6 +133,9 @@ fn reach_refused(reach: &mut Reach, record: &[u8], refusal: Refusal) {
     if refusal.number == 6 && bytes_left(record) {
         reach.count(if wide { WIDE_LEFT_OVER } else { LEFT_OVER });
     }
+    if refusal.number == 8 {
+        unfit_co2_at(record, refusal.place as usize).map(|what| reach.count(what));
+    }
     if wide && refusal.number == 8 && absent_at(record, refusal.place as usize) {
         reach.count(WIDE_ABSENT);
     }
@@ -144,7 +149,7 @@ fn absent_at(record: &[u8], place: usize) -> bool {
     })
 }
 
-fn reach_judged(reach: &mut Reach, record: &[u8], judged: &Judged) {
+fn reach_judged(reach: &mut Reach, bytes: &[u8], judged: &Judged) {
     let printed = judged.window.is_some();
     reach.count(if printed {
         "window printed"
@@ -153,9 +158,11 @@ fn reach_judged(reach: &mut Reach, record: &[u8], judged: &Judged) {
     });
     let voids = judged.voids.iter();
     voids.for_each(|void| reach.count(format!("void {void}")));
-    let Ok(record) = read_record(record) else {
+    let Ok(record) = read_record(bytes) else {
         return;
     };
+    let apart = names_in_record(bytes, &record);
+    apart.iter().for_each(|name| reach.count(*name));
     let steps = record_steps(&record);
     if judged.word.is_none() {
         open_without_window(&steps).map(|what| reach.count(what));

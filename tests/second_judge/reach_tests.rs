@@ -8,6 +8,7 @@ use crate::numbers::{judge_reading, judge_readings, second_of, Reading, Second};
 use crate::reach::{names, texts, Reach};
 use crate::reach_dips::{dips_in_tests, Runs};
 use crate::reach_engines::{Engines, IN_A_TEST, ON_THE_SHEET};
+use crate::reach_hundredths::{hundredths_in_tests, Twin};
 use crate::reach_windows::{windows_in_tests, Windows};
 use crate::record::cause_fits;
 use crate::running::{Running, Step};
@@ -30,6 +31,7 @@ pub fn reach_tests(data: &[u8]) -> Reach {
         match test_item(&mut test, &event) {
             Ok(None) => {
                 shown.windows = Windows::default();
+                shown.twin = test.as_ref().map(|test| Twin::new(test.car));
                 reach.count("begun")
             }
             Err(refusal) => reach.count(refusal.to_string()),
@@ -52,12 +54,13 @@ pub fn reach_tests(data: &[u8]) -> Reach {
     reach
 }
 
-/// What a test shows of dips, of invalid windows and of engine speeds.
+/// What a test shows of dips, of invalid windows, of engine speeds and of CO2 in hundredths.
 #[derive(Default)]
 struct Shown {
     runs: Runs,
     windows: Windows,
     engines: Engines,
+    twin: Option<Twin>,
 }
 
 impl Shown {
@@ -67,7 +70,8 @@ impl Shown {
         shown.extend(self.windows.step(car, second, step));
         let emptied = self.engines.step(second.and_then(|s| s.engine), step);
         let engines = self.engines.names(car.automatic).into_iter().chain(emptied);
-        shown.extend(engines.map(str::to_string));
+        let twin = self.twin.iter_mut().flat_map(|twin| twin.step(event, step));
+        shown.extend(engines.chain(twin).map(str::to_string));
         shown
     }
 }
@@ -142,6 +146,7 @@ fn required_of_tests() -> Vec<String> {
     required.extend(texts(&IN_A_TEST));
     required.extend(dips_in_tests());
     required.extend(windows_in_tests());
+    required.extend(hundredths_in_tests());
     required.extend(names("void-7 at c = 145 in mode ", 1..=2));
     for mode in 1..=2 {
         for void in 1..=9 {

@@ -6,12 +6,14 @@ use crate::numbers::{dilution_factor, GREATEST, MISSING, OVER, SCALE};
 use crate::vehicle::Vehicle;
 
 /// A second in units by code; `over` is a code made over range, 0 none; `missing` the
-/// percentage in which an automatic gearbox's engine speed is missing.
+/// percentage in which an automatic gearbox's engine speed is missing. `tenths`: CO2 lies as
+/// far beside as a count of tenths allows, as in records from before hundredths.
 #[derive(Clone, Copy, Debug)]
 pub struct Wish {
     pub units: [i64; 8],
     pub over: u8,
     pub missing: u64,
+    pub tenths: bool,
 }
 
 /// Bits of a number of units, `offset` hundredths of a unit beside it.
@@ -29,6 +31,9 @@ pub fn encode(wish: &Wish, automatic: bool, dice: &mut Dice) -> [u32; 8] {
     for code in 1..=8u8 {
         let i = code as usize - 1;
         let offset = dice.pick(&[0, 0, 0, 25, -25, 49, -49]);
+        // Half a tenth below 0 is unfit in hundredths.
+        let tenths = code == 7 && wish.tenths && (offset > 0 || wish.units[i] > 0);
+        let offset = if tenths { 10 * offset } else { offset };
         let greatest = GREATEST[i] as i64;
         bits[i] = bits_of(code, wish.units[i].clamp(0, greatest), offset);
     }
@@ -82,6 +87,8 @@ pub struct Script {
     pub noise: u64,   // percent of seconds disturbed
     pub missing: u64, // percent of an automatic gearbox's engine speeds that are missing
     pub varied: bool, // engine speeds change from second to second
+    pub mixed: bool,  // CO2 and HC change from second to second
+    pub tenths: bool, // CO2 as in records from before hundredths
     pub dice: Dice,
 }
 
@@ -94,7 +101,18 @@ impl Script {
             noise: 0,
             missing: 50,
             varied: false,
+            mixed: false,
+            tenths: false,
             dice: Dice(seed),
+        }
+    }
+
+    /// The same with a CO2 and an HC of its own in each second, CO2 mostly no multiple of ten; now
+    /// and then a sum of 601. All of them pass.
+    pub fn mixed(car: Vehicle, seed: u64) -> Script {
+        Script {
+            mixed: true,
+            ..Script::new(car, seed)
         }
     }
 
@@ -108,17 +126,29 @@ impl Script {
     pub fn good(&self) -> Wish {
         let (speed, load) = (self.car.target(self.mode), self.car.set_load(self.mode));
         Wish {
-            units: [speed, load, 4000, 100, 100, 20, 120, 10],
+            units: [speed, load, 4000, 100, 100, 20, 1200, 10],
             over: 0,
             missing: self.missing,
+            tenths: self.tenths,
         }
     }
 
-    /// The same, with an engine speed of its own where they vary.
+    /// The same, with an engine speed and gases of its own where they vary.
     pub fn next_good(&mut self) -> Wish {
         let mut wish = self.good();
         if self.varied {
             wish.units[2] = self.some_engine();
+        }
+        match self.mixed {
+            true if self.dice.percent(4) => {
+                wish.units[6] = self.dice.within(400, 599);
+                wish.units[4] = 601 - wish.units[6];
+            }
+            true => {
+                wish.units[6] = self.dice.within(1100, 1300);
+                wish.units[3] = self.dice.within(100, 420);
+            }
+            false => {}
         }
         wish
     }
@@ -166,15 +196,15 @@ impl Script {
         wish
     }
 
-    /// 10·CO2 + CO at 600 or 601, seldom 599.
+    /// CO2 + CO at 600 or 601, seldom 599.
     pub fn set_sum(&mut self, wish: &mut Wish) {
         let sum = if self.dice.percent(15) {
             599
         } else {
             self.dice.pick(&[600, 601])
         };
-        wish.units[6] = self.dice.within(40, 59);
-        wish.units[4] = sum - 10 * wish.units[6];
+        wish.units[6] = self.dice.within(400, 599);
+        wish.units[4] = sum - wish.units[6];
     }
 
     /// The greatest |load − P| in tolerance.
@@ -197,9 +227,9 @@ impl Script {
         for _ in 0..count {
             let mut wish = self.next_good();
             let co2 = if strong {
-                self.dice.within(154, 180)
+                self.dice.within(1533, 1800)
             } else {
-                self.dice.within(90, 153)
+                self.dice.within(900, 1532)
             };
             let around = limits.co as i64 * 2 / 3;
             let dcf = dilution_factor(co2 as u128, around as u128);
@@ -275,9 +305,34 @@ impl Script {
         self.seconds(1, |w| w.missing = 100);
     }
 
-    /// A second with 10·CO2 + CO of that many hundredths.
+    /// A second with CO2 + CO of that many hundredths.
     pub fn sum(&mut self, sum: i64) {
-        self.seconds(1, |w| (w.units[4], w.units[6]) = (sum - 500, 50));
+        self.sum_with(sum, 500);
+    }
+
+    /// The same with so many hundredths of CO2.
+    pub fn sum_with(&mut self, sum: i64, co2: i64) {
+        self.seconds(1, |w| (w.units[4], w.units[6]) = (sum - co2, co2));
+    }
+
+    /// A second just diluted, by any CO2 where it changes from second to second.
+    pub fn diluted(&mut self) {
+        let co2 = match self.mixed {
+            true => self.dice.within(400, 599),
+            false => 500,
+        };
+        self.sum_with(599, co2);
+    }
+
+    /// Seconds with HC as near below its limit as a count can be, or as near above, and CO2
+    /// four hundredths from a tenth: rounded to it, the other of the two.
+    pub fn narrow(&mut self, count: usize, above: bool) {
+        let co2 = 1200 + if above { -4 } else { 4 };
+        let dcf = dilution_factor(co2 as u128, 100);
+        let hc = (self.car.limits().hc * 1_000_000 / dcf) as i64 + above as i64;
+        self.seconds(count, |w| {
+            (w.units[3], w.units[4], w.units[6]) = (hc, 100, co2)
+        });
     }
 
     /// Moving, but not near enough for n to start.
@@ -321,7 +376,7 @@ impl Script {
             let mut wish = self.next_good();
             wish.units[0] = self.dice.within(0, most);
             wish.units[1] = 0;
-            wish.units[6] = self.dice.pick(&[0, 50, 120]);
+            wish.units[6] = self.dice.pick(&[0, 500, 1200]);
             wish.over = if self.dice.percent(10) {
                 self.dice.pick(&[4, 5, 6, 7])
             } else {
@@ -445,7 +500,7 @@ impl Script {
             5 => {
                 self.settle();
                 self.clean(3);
-                self.seconds(1, |w| (w.units[4], w.units[6]) = (99, 50));
+                self.diluted();
             }
             6 => {
                 self.clean(4);

@@ -102,7 +102,7 @@ impl Story {
         let settings = some_settings(&mut self.dice);
         let p = self.dice.pick(&[500, 4300, 1705, 2339, 4243]);
         self.after(0, Event::Start(settings, p));
-        Script::new(Vehicle::new(&settings, p), self.dice.next())
+        Script::mixed(Vehicle::new(&settings, p), self.dice.next())
     }
 
     /// What a script has written so far, a second apart.
@@ -131,7 +131,8 @@ impl Story {
         self.after(late, Event::Stop(3));
     }
 
-    /// A fresh bench at clock 0: no test, then locks 1, 3, 4 and 8 until each is lifted, and a pass.
+    /// A fresh bench at clock 0: no test, then locks 1, 3, 4 and 8 until each is lifted, and a pass,
+    /// none by tenths.
     pub fn first_events(&mut self) {
         let unfit = unfit_second(true, &mut self.dice);
         self.add(&[
@@ -150,7 +151,8 @@ impl Story {
         self.start();
         self.after(0, PREPARED);
         let mut script = self.start();
-        script.pass();
+        script.settle();
+        script.narrow(25, false);
         self.play(&mut script);
     }
 
@@ -282,6 +284,12 @@ impl Story {
             let mut bits = good_bits();
             bits[code as usize - 1] = unfit_bits(code, automatic, &mut self.dice);
             bits[7] = unfit_bits(8, automatic, &mut self.dice);
+            self.ahead(500, Event::Second(bits));
+        }
+        // Fit in tenths.
+        for co2 in [18.04f32, -0.04] {
+            let mut bits = good_bits();
+            bits[6] = co2.to_bits();
             self.ahead(500, Event::Second(bits));
         }
         self.good_second(&mut script);

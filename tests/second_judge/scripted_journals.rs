@@ -204,7 +204,7 @@ impl Story {
 }
 
 /// A bench of its own for each story: V, U, and what is told.
-const STORIES: [(u32, u16, fn(&mut Story)); 14] = [
+const STORIES: [(u32, u16, fn(&mut Story)); 15] = [
     (86_400, 5, Story::ladders),
     (900, 5, Story::parts_of_lock_3),
     (86_400, 5, Story::signing_in_and_preparing),
@@ -216,6 +216,7 @@ const STORIES: [(u32, u16, fn(&mut Story)); 14] = [
     (3600, 2, Story::unsent_verdicts),
     (86_400, 1, Story::unsent_verdicts),
     (86_400, 1, Story::pass_and_fail),
+    (86_400, 3, Story::hundredths),
     (900, 20, locks_case_by_case),
     (86_400, 20, checks_case_by_case),
     (60, 3, tests_case_by_case),

@@ -25,9 +25,9 @@ const FROM_START: [fn(&mut Script); 20] = [
         s.missing = 0; s.settle(); s.engine_at_0(10); s.clean(14);
         s.seconds(1, |w| (w.units[0], w.missing) = (w.units[0] + 16, 100));
     },
-    // Sums 600, 601, 599; n = 25 (in mode 2: 15) with g = 4; with g = 5, at 50 from target.
+    // Sums 600, 601, 599, all others by tenths; n = 25 (in mode 2: 15) with g = 4; with g = 5, at 50 from target.
     |s| {
-        s.clean(4); s.sum(600); s.clean(10); s.sum(601); s.clean(10); s.sum(599); s.rest();
+        s.settle_by_hundredths(); s.clean(10); s.sum_with(601, 553); s.sum_with(599, 546); s.rest();
         s.unready(s.patience() - 4); s.clean(4); s.rest();
         s.unready_at_edge(s.patience() - 5); s.pass();
     },
@@ -54,7 +54,7 @@ const FROM_START: [fn(&mut Script); 20] = [
     |s| {
         s.clean(3); s.far(2);
         for _ in 0..5 { s.unready(1); s.far(1) }
-        s.unready(18); s.far(2); s.far(3); s.pass();
+        s.unready(18); s.far(2); s.far(3); s.pass_by_hundredths();
     },
     // u = 2 at n = 21; void 7, not 8, at c = 145; void 8 in settling, its counts kept.
     |s| {
@@ -74,7 +74,7 @@ const FROM_START: [fn(&mut Script); 20] = [
         s.settle(); s.clean(3); s.engine(3000); s.clean(3); s.engine(5000); s.clean(4);
         s.engine(2999); s.clean(4); s.engine(5001); s.clean(40);
     },
-    |s| { s.settle(); s.close(90) },
+    |s| { s.settle(); s.narrow(12, false); s.narrow(18, true); s.close(60) },
     // Engine speeds whose mean is at a half, then below it; stops while measuring; then second 10
     // more than 8 above second 1.
     |s| {
@@ -83,7 +83,7 @@ const FROM_START: [fn(&mut Script); 20] = [
         s.settle(); s.falling(25, -9);
     },
     // Counts kept by a verdict: in settling by voids 5 and 7, in measuring by void 6.
-    |s| { s.void_and_rest(1); s.void_and_rest(2); s.clean(3); s.far(1); s.sum(599) },
+    |s| { s.void_and_rest(1); s.void_and_rest(2); s.clean(3); s.far(1); s.sum_with(599, 547) },
     |s| {
         s.void_and_rest(3); s.void_and_rest(4);
         s.unready(s.patience() - 6); s.far(1); s.unready(1); s.clean(4);
@@ -98,7 +98,7 @@ const FROM_START: [fn(&mut Script); 20] = [
 #[rustfmt::skip]
 const FROM_MODE_2: [fn(&mut Script); 8] = [
     |s| { s.void_and_rest(1); s.void_and_rest(2); s.settle_at_edge(); s.falling(25, -9) },
-    |s| { s.void_and_rest(3); s.void_and_rest(4); s.settle(); s.dirty(90) },
+    |s| { s.void_and_rest(3); s.void_and_rest(4); s.settle(); s.narrow(90, true) },
     // n = 15 with g = 5.
     |s| {
         s.void_and_rest(5); s.void_and_rest(6);
@@ -144,7 +144,7 @@ pub fn scripted_gearbox(index: usize) -> u16 {
 
 /// Scripted test number `index`.
 pub fn scripted_test(car: Vehicle, seed: u64, index: usize) -> Option<Vec<Item>> {
-    let mut script = Script::new(car, seed.wrapping_mul(1000).wrapping_add(index as u64));
+    let mut script = Script::mixed(car, seed.wrapping_mul(1000).wrapping_add(index as u64));
     script.vary();
     // Those about dips go to mode 2 by themselves.
     match index {

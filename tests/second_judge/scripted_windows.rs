@@ -6,7 +6,8 @@ use crate::script::Script;
 use crate::scripted_events::Story;
 
 impl Story {
-    /// As `fail`, with an invalid window at the verdict, and others that mode 2 empties.
+    /// As `fail`, with an invalid window at the verdict, and others that mode 2 empties; by tenths
+    /// the windows of mode 2 would pass.
     pub fn fail_with_invalid(&mut self) {
         self.fresh();
         let mut script = self.start();
@@ -16,7 +17,7 @@ impl Story {
         script.dirty(1);
         script.mode = 2;
         script.settle();
-        script.dirty(89);
+        script.narrow(89, true);
         script.out(1);
         self.play(&mut script);
     }
@@ -28,12 +29,12 @@ impl Story {
     }
 
     /// A start on a bench that was ready before its last test.
-    fn start_another(&mut self) -> Script {
+    pub fn start_another(&mut self) -> Script {
         self.add(&[Event::Upload, Event::Calibration(true), PREPARED]);
         self.start()
     }
 
-    /// No window as yet, after an attempt with an invalid one.
+    /// No window as yet, after an attempt with an invalid one; by tenths void 5 comes while settling.
     fn incomplete_at_9(&mut self) {
         let mut script = self.start_another();
         script.settle();
@@ -44,9 +45,10 @@ impl Story {
         script.clean(1);
         script.stop(2);
         script.rest();
-        script.settle();
-        script.clean(9);
-        script.stop(3);
+        script.settle_by_hundredths();
+        script.sum_with(601, 553);
+        script.clean(8);
+        script.sum_with(599, 547);
         self.play(&mut script);
     }
 
