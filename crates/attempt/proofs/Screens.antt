@@ -1,5 +1,5 @@
 -- Steps 2 and 3 in numbers. Assumes nothing.
-use Prim.Native.Nat.{ℕ, ◌+◌, ◌*◌, ◌≤◌, ◌<◌}
+use Prim.Native.Nat.{ℕ, ◌+◌, ◌≤◌, ◌<◌}
 use native.Mathlib.Omega.{arith}
 use mathlib.Core.Bool.{false}
 use mathlib.Core.Path.{◌≡◌, refl}
@@ -24,4 +24,4 @@ screened_exactly c s =
     (λ f. (counts_at_zero c s e, inl (refl, f)))
     (λ f. on_pick (Screens c s) (diluted s) _ _
     (λ g. (counts_at_zero c s e, inr (refl, f, ltb-true _ _ g)))
-    (λ g. (counts_at_zero c s e, f, λ h. let n : 600 ≤ 10 * s.co2.0 + s.co.0 = ltb-false _ _ g in omega arith))))
+    (λ g. (counts_at_zero c s e, f, λ h. let n : 600 ≤ s.co2.0 + s.co.0 = ltb-false _ _ g in omega arith))))

@@ -1,5 +1,5 @@
 -- Steps 2 and 3: the seconds before the first counted one, over range and dilution.
-use Rattle.std.specs.Prelude.{ℕ, ◌+◌, ◌*◌, ◌<◌, Bool, ◌&&◌, leb, ltb, eqb}
+use Rattle.std.specs.Prelude.{ℕ, ◌+◌, ◌<◌, Bool, ◌&&◌, leb, ltb, eqb}
 use Rattle.refusal.specs.Choice.{pick}
 use Rattle.reading.specs.declared.Second.{Second}
 use Rattle.correction.specs.Dilution.{dilution_sum}
@@ -10,13 +10,13 @@ use Rattle.attempt.specs.declared.Screen.TheVariants.{Waits, Flawed, Clear}
 abbrev pub waits : ℕ → Second → Bool
 waits c s = eqb c 0 && leb s.speed 10
 
--- "10·CO2 + CO < 600 (diluted)"
+-- "10·CO2 + CO < 600 (diluted)", of which document 02, A.9, makes CO2 + CO < 600.
 abbrev pub diluted : Second → Bool
 diluted s = ltb (dilution_sum s.co2 s.co) 600
 
--- The same of the numbers: CO2 in tenths, CO in hundredths of a percent.
+-- The same of the numbers, both in hundredths of a %.
 abbrev pub Diluted : Second → Type 0
-Diluted s = 10 * s.co2.0 + s.co.0 < 600
+Diluted s = s.co2.0 + s.co.0 < 600
 
 -- "Over range in codes 4 to 7: void 6. Else .. (diluted): void 5."
 abbrev pub flaw_of : Bool → Bool → Screen

@@ -1,7 +1,7 @@
 -- Rounding half up by quotient and remainder. Assumes nothing.
 use mathlib.Core.Path.{◌≡◌}
 use Prim.Native.Nat.{ℕ, ◌+◌, ◌-◌, ◌*◌, ◌/◌, ◌%◌, ◌<◌, ◌≤◌}
-use native.Mathlib.Nat.{div-add-mod', mod-lt, div-eq_of_lt-le, div-zero, div-lt_iff_lt-mul, mul-le-mul_left, mul-div-le, lt-mul-div-succ}
+use native.Mathlib.Nat.{div-add-mod', mod-lt, div-eq_of_lt-le, div-zero, div-lt_iff_lt-mul, le-div_iff_mul-le, mul-le-mul_left, mul-div-le, lt-mul-div-succ}
 use native.Mathlib.Omega.{arith}
 use Rattle.correction.specs.Rounding.{half_up, HalfUpExact}
 
@@ -31,6 +31,13 @@ at_most a b q h l =
     let pos : 0 < 2 * b = omega arith in
     let less : (2 * a + b) / (2 * b) < q + 1 = (div-lt_iff_lt-mul pos).1 (omega arith) in
     omega arith
+
+-- A quotient of at least q - 1/2 is rounded to q at least.
+pub at_least : (a b q : ℕ) → 0 < b → 2 * q * b ≤ 2 * a + b → q ≤ half_up a b
+unfolding half_up
+at_least a b q h l =
+    let pos : 0 < 2 * b = omega arith in
+    (le-div_iff_mul-le pos).1 (omega arith)
 
 -- Every quotient is rounded half up.
 pub half_up_exact : HalfUpExact

@@ -3,13 +3,16 @@ use mathlib.Core.Path.{◌≡◌, ap}
 use Prim.Native.Nat.{ℕ, ◌+◌, ◌*◌, ◌^◌}
 use native.Mathlib.Nat.{zero-mul, mul-zero, zero-add, add-zero, one-mul, mul-one, mul-pos}
 use native.Mathlib.Omega.{arith}
-use Rattle.correction.proofs.Held.{dcf_held}
+use Rattle.correction.proofs.Held.{dcf_held, dcf_rounded}
 use Rattle.correction.proofs.Ranges.{InRange, in_range_lem, divisor_positive, k_within}
 use Rattle.correction.specs.Humidity.{dry_pressure, humidity_divisor}
-use Rattle.correction.specs.Annex.{Same, ratio, annex_k, DilutionReduced, HumidityReduced}
+use Rattle.correction.specs.Annex.{Same, ratio, annex_k, SumOfPercentages, DilutionReduced, HumidityReduced}
 use Rattle.correction.specs.Claims.{DilutionClaims, HumidityClaims}
 
 ruleset zeros = (zero-mul, mul-zero, zero-add, add-zero, one-mul, mul-one)
+
+pub sum_of_percentages : SumOfPercentages
+sum_of_percentages co2 co = record { left = simp zeros (omega arith); right = omega arith; equal = simp zeros (omega arith) }
 
 pub dilution_reduced : DilutionReduced
 dilution_reduced co2 co h = record { left = simp zeros (mul-pos (mul-pos (omega arith) (omega arith)) h); right = omega arith; equal = simp zeros (omega arith) }
@@ -34,7 +37,7 @@ humidity_reduced r b p hr hb hp =
     same_at r b p (dry_pressure r b p) (humidity_divisor r b p) h (omega arith) (omega arith)
 
 pub dilution_claims : DilutionClaims
-dilution_claims = record { reduced = dilution_reduced; held = dcf_held }
+dilution_claims = record { reduced = dilution_reduced; rounded = dcf_rounded; held = dcf_held }
 
 pub humidity_claims : HumidityClaims
 humidity_claims =

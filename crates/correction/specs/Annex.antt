@@ -1,9 +1,8 @@
 -- 004's annex AB as it is printed there, in exact fractions of whole numbers: nothing is rounded and no formula is reduced.
--- The two claims at the end say that document 01's reduced forms are the same fractions.
+-- The claims at the end say that the dilution sum and the reduced forms are the same fractions.
 use Rattle.std.specs.Prelude.{ℕ, ◌+◌, ◌*◌, ◌^◌, ◌<◌, ◌≡◌, true}
-use Rattle.reading.specs.declared.Tenths.{Tenths}
 use Rattle.reading.specs.declared.Hundredths.{Hundredths}
-use Rattle.correction.specs.Dilution.{dilution_divisor}
+use Rattle.correction.specs.Dilution.{dilution_sum, dilution_divisor}
 use Rattle.correction.specs.Humidity.{humidity_fit, pressure_fit, saturation_fit, dry_pressure, humidity_divisor}
 
 -- A whole number, which may be below zero: plus − minus.
@@ -65,6 +64,10 @@ pub record Same (x y : Fraction) : Type 0 where
       (multiplied x.above y.below).plus + (multiplied y.above x.below).minus ≡
       (multiplied y.above x.below).plus + (multiplied x.above y.below).minus
 
+-- A measured concentration in %: so many hundredths of a %.
+abbrev pub percentage : Hundredths → Fraction
+percentage gas = ratio gas.0 100
+
 -- AB1: X = CO2/(CO2 + CO), of the measured concentrations in %.
 abbrev pub carbon_share : Fraction → Fraction → Fraction
 carbon_share co2 co = co2 /ᶠ (co2 +ᶠ co)
@@ -73,9 +76,9 @@ carbon_share co2 co = co2 /ᶠ (co2 +ᶠ co)
 abbrev pub calculated_co2 : Fraction → Fraction
 calculated_co2 x = x /ᶠ (ratio 4644 1000 +ᶠ ratio 188 100 *ᶠ x) *ᶠ ratio 100 1
 
--- AB1: DCF is the calculated CO2 over the measured CO2; a tenths of a % and b hundredths of a % are measured.
-abbrev pub annex_dcf : Tenths → Hundredths → Fraction
-annex_dcf co2 co = calculated_co2 (carbon_share (ratio co2.0 10) (ratio co.0 100)) /ᶠ ratio co2.0 10
+-- AB1: DCF is the calculated CO2 over the measured CO2.
+abbrev pub annex_dcf : Hundredths → Hundredths → Fraction
+annex_dcf co2 co = calculated_co2 (carbon_share (percentage co2) (percentage co)) /ᶠ percentage co2
 
 -- AB2: H = 6.211·R·P/(P_B − R·P/100), with R in %, P and P_B in kPa.
 abbrev pub absolute_humidity : Fraction → Fraction → Fraction → Fraction
@@ -89,10 +92,15 @@ correction_at h = ratio 1 1 /ᶠ (ratio 1 1 -ᶠ ratio 329 10000 *ᶠ (h -ᶠ ra
 abbrev pub annex_k : ℕ → ℕ → ℕ → Fraction
 annex_k r b p = correction_at (absolute_humidity (ratio r 1) (ratio p 1000) (ratio b 10))
 
+-- The dilution sum, in hundredths of a %, is the sum of the two concentrations in %.
+abbrev pub SumOfPercentages : Type 0
+SumOfPercentages =
+    (co2 co : Hundredths) → Same (percentage co2 +ᶠ percentage co) (ratio (dilution_sum co2 co) 100)
+
 -- "AB1 reduces to 10^7/D", in millionths 10^13/D, wherever it is defined: where there is some CO2.
 abbrev pub DilutionReduced : Type 0
 DilutionReduced =
-    (co2 : Tenths) (co : Hundredths) → 0 < co2.0 → Same (annex_dcf co2 co) (ratio (10 ^ 7) (dilution_divisor co2 co))
+    (co2 co : Hundredths) → 0 < co2.0 → Same (annex_dcf co2 co) (ratio (10 ^ 7) (dilution_divisor co2 co))
 
 -- AB2 reduces to 10^6·E/(1,352,359E − 20,434,190rp), in millionths 10^12·E/(..), within the ranges of the settings and of p.
 abbrev pub HumidityReduced : Type 0

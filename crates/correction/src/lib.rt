@@ -14,8 +14,9 @@ ghost use Rattle.correction.specs.Humidity.{
   humidity_factor,
 };
 ghost use Rattle.correction.specs.Claims.{DilutionClaims, HumidityClaims};
+ghost use Rattle.correction.specs.Annex.{SumOfPercentages};
 
-use reading::{Hundredths, Tenths};
+use reading::Hundredths;
 
 // a/b rounded half up, for all numbers of 64 bits; 0 where b is 0. With it comes the claim that every quotient is so rounded.
 // Ruled out: 1/2 giving 0, and 2a + b wrapping for a large a.
@@ -33,25 +34,26 @@ pub fn half_up(a: u64, b: u64) -> u64
     whole + 1
 }
 
-// 10·CO2 + CO in hundredths of a %.
-// Ruled out: tenths added to hundredths as they are, and a sum of one gas alone.
-pub fn dilution_sum(co2: Tenths, co: Hundredths) -> u32
-    ensures { result ≡ dilution_sum co2 co }
+// CO2 + CO in hundredths of a %. With it comes the claim that it is the sum of the two in %.
+// Ruled out: ten hundredths a unit of CO2, as its tenths were, and a sum of one gas alone.
+#[tactic(auto, using(crate::proofs::Reduced::sum_of_percentages))]
+pub fn dilution_sum(co2: Hundredths, co: Hundredths) -> u32
+    ensures { (result ≡ dilution_sum co2 co) × SumOfPercentages }
 {
-    10 * (co2.0 as u32) + (co.0 as u32)
+    (co2.0 as u32) + (co.0 as u32)
 }
 
-// D = 65,240a + 4,644b.
-fn dilution_divisor(co2: Tenths, co: Hundredths) -> u64
+// D = 6,524a + 4,644b.
+fn dilution_divisor(co2: Hundredths, co: Hundredths) -> u64
     ensures { result ≡ dilution_divisor co2 co }
 {
-    65_240 * (co2.0 as u64) + 4_644 * (co.0 as u64)
+    6_524 * (co2.0 as u64) + 4_644 * (co.0 as u64)
 }
 
-// DCF in millionths, for every pair of counts. With it come the claims that it is annex AB1's fraction and that it is held.
-// Ruled out: a quotient rounded down, and a DCF above 3 where there is little or no carbon.
+// DCF in millionths, for every pair of counts. With it come the claims that it is annex AB1's fraction, rounded half up, and that it is held.
+// Ruled out: a quotient rounded down, CO taken for CO2, and a DCF above 3 where there is little or no carbon.
 #[tactic(auto, using(crate::proofs::Reduced::dilution_claims), unfolding(crate::specs::Dilution::dcf_of, refusal::specs::Choice::pick))]
-pub fn dcf(co2: Tenths, co: Hundredths) -> u32
+pub fn dcf(co2: Hundredths, co: Hundredths) -> u32
     ensures { (result ≡ dcf_of co2 co) × DilutionClaims }
 {
     match dilution_divisor(co2, co) {

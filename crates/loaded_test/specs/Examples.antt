@@ -34,7 +34,7 @@ row = record {
   hc = 100;
   co = record { 0 = 100 };
   no = 200;
-  co2 = record { 0 = 120 };
+  co2 = record { 0 = 1200 };
   over = false;
   oxygen = Missing;
 }

@@ -1,6 +1,6 @@
 // DCF, k_H, the limits and loads of a vehicle, and the judgement of ten seconds.
 use inputs::{byte, short};
-use reading::{Channel, Hundredths, Reading, Second, Tenths};
+use reading::{Channel, Hundredths, Reading, Second};
 use refusal::Refusal;
 use std::io;
 use std::io::{Read, Write};
@@ -19,7 +19,7 @@ pub(crate) fn item(input: &mut impl Read, output: &mut impl Write) -> io::Result
 }
 
 fn dcf(input: &mut impl Read, output: &mut impl Write) -> io::Result<()> {
-    let co2 = Tenths(short(input)?);
+    let co2 = Hundredths(short(input)?);
     let co = Hundredths(short(input)?);
     writeln!(output, "dcf {}", correction::dcf(co2, co))
 }

@@ -1,5 +1,5 @@
 // A reading of one code, or the eight readings of a second, and what they become.
-use reading::{ByChannel, Channel, Level, Reading, Readings, Second};
+use reading::{ByChannel, Channel, Level, Reading, Readings, Second, Tenths};
 use std::io;
 use std::io::{Read, Write};
 
@@ -55,7 +55,7 @@ fn unit_of(output: &mut impl Write, s: Second, channel: Option<Channel>) -> io::
     }
 }
 
-fn level_of(s: Second, channel: Option<Channel>) -> Level {
+fn level_of(s: Second, channel: Option<Channel>) -> Level<u16> {
     match channel {
         Some(Channel::Speed) => Level::Count(s.speed()),
         Some(Channel::Load) => Level::Count(s.load()),
@@ -63,8 +63,16 @@ fn level_of(s: Second, channel: Option<Channel>) -> Level {
         Some(Channel::Hc) => Level::Count(s.hc()),
         Some(Channel::Co) => Level::Count(s.co().0),
         Some(Channel::No) => Level::Count(s.no()),
-        Some(Channel::O2) => s.oxygen(),
+        Some(Channel::O2) => in_units(s.oxygen()),
         Some(Channel::Co2) | None => Level::Count(s.co2().0),
+    }
+}
+
+fn in_units(oxygen: Level<Tenths>) -> Level<u16> {
+    match oxygen {
+        Level::Count(n) => Level::Count(n.0),
+        Level::Missing => Level::Missing,
+        Level::Over => Level::Over,
     }
 }
 
@@ -80,7 +88,7 @@ fn all(output: &mut impl Write, s: Second) -> io::Result<()> {
     )?;
     write!(output, "{} {} {} {} ", s.hc(), s.co().0, s.no(), s.co2().0)?;
     match s.oxygen() {
-        Level::Count(n) => write!(output, "{n}")?,
+        Level::Count(n) => write!(output, "{}", n.0)?,
         Level::Missing => write!(output, "missing")?,
         Level::Over => write!(output, "over")?,
     }

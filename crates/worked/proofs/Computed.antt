@@ -73,4 +73,7 @@ worked = record {
   no_above = refl;
   co_above = refl;
   hc_greater = refl;
+  co2_greatest = refl;
+  co2_above = refl;
+  co2_near_tenth = refl;
 }

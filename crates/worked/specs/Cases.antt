@@ -1,6 +1,6 @@
 -- Document 01, "Worked by hand": the starred cases as one table. Each row sets what the definitions give against what document 01 writes.
--- At its end stand figures for document 02: A.1, the engine speed on the sheet, A.2, coast-down runs, A.3, the numbers of a rounding, and
--- A.5, prepares.
+-- DCF's are in the units of document 02, A.9. At its end stand figures for document 02: A.1, the engine speed on the sheet, A.2, coast-down
+-- runs, A.3, the numbers of a rounding, A.5, prepares, and A.9, carbon dioxide in hundredths.
 use Rattle.refusal.specs.declared.Refusal.TheVariants.{ReadingUnfit}
 use Rattle.refusal.specs.declared.Refusal.{Refusal}
 use Rattle.std.specs.Prelude.{◌≡◌, Bool, true, false, List, [], ◌∷◌, ℕ, zero, suc, ◌<◌, ℤ, pos, negsuc, Some, None, Option, Ok, Err, Result}
@@ -32,9 +32,9 @@ use Rattle.locks.specs.declared.Try.TheVariants.{Good, Wrong}
 use Rattle.locks.specs.declared.Event.TheVariants.{WarmUp, Calibration, Try}
 use Rattle.worked.specs.Events.{times, motorcycle, run_with, faster, slower, check_with, prepared}
 
--- The units of a second whose HC and CO have these bits and whose other readings are 0, with a manual gearbox.
-unfoldable pub gases : ℕ → ℕ → Result Second Refusal
-gases hc co =
+-- The units of a second whose HC, CO and CO2 have these bits and whose other readings are 0, with a manual gearbox.
+unfoldable pub gases : ℕ → ℕ → ℕ → Result Second Refusal
+gases hc co co2 =
     second_of
     (record {
       speed = reading_of 0;
@@ -43,23 +43,23 @@ gases hc co =
       hc = reading_of hc;
       co = reading_of co;
       no = reading_of 0;
-      co2 = reading_of 0;
+      co2 = reading_of co2;
       o2 = reading_of 0;
     })
     false
 
--- The units of such a second: these counts of HC and CO, and 0 for the other codes.
-abbrev pub counts : ℕ → ℕ → Second
-counts hc co = record {
+-- The units of such a second: these counts of HC, CO and CO2, and 0 for the other codes.
+abbrev pub counts : ℕ → ℕ → ℕ → Second
+counts hc co co2 = record {
   speed = 0;
   load = 0;
   engine = Some 0;
   hc = hc;
   co = record { 0 = co };
   no = 0;
-  co2 = record { 0 = 0 };
+  co2 = record { 0 = co2 };
   over = false;
-  oxygen = Count 0;
+  oxygen = Count (record { 0 = 0 });
 }
 
 -- DCF of a CO2 and a CO in units.
@@ -96,7 +96,7 @@ engine_kept engine =
       hc = 100;
       co = record { 0 = 100 };
       no = 200;
-      co2 = record { 0 = 120 };
+      co2 = record { 0 = 1200 };
       over = false;
       oxygen = Missing;
     })
@@ -125,21 +125,21 @@ signed_bits bits = signed_of (record { 0 = bits })
 abbrev pub above_at : ℕ → ℕ → ℕ → Option Channel
 above_at hc co nitric = above_greatest (check_with hc co nitric 0)
 
--- The starred cases of "Worked by hand", one field a case; then the figures for document 02's A.1, A.2, A.3 and A.5.
+-- The starred cases of "Worked by hand", one field a case; then the figures for document 02's A.1, A.2, A.3, A.5 and A.9.
 pub record Worked : Type 0 where
   -- CO bits 0x3F80A3D7: 100
-  pub co_bits : gases 0 0x3F80A3D7 ≡ Ok (counts 0 100)
+  pub co_bits : gases 0 0x3F80A3D7 0 ≡ Ok (counts 0 100 0)
   -- CO −0.01 (bits 0xBC23D70A): refused 8, at code 5
-  pub co_negative : gases 0 0xBC23D70A ≡ Err (ReadingUnfit 5)
+  pub co_negative : gases 0 0xBC23D70A 0 ≡ Err (ReadingUnfit 5)
   -- HC 9999.5 (bits 0x461C3E00): refused 8, at code 4
-  pub hc_above : gases 0x461C3E00 0 ≡ Err (ReadingUnfit 4)
+  pub hc_above : gases 0x461C3E00 0 0 ≡ Err (ReadingUnfit 4)
   -- HC 9999.4 (bits 0x461C3D9A): 9999
-  pub hc_greatest : gases 0x461C3D9A 0 ≡ Ok (counts 9999 0)
-  -- DCF: a 120, b 100: 1,205,807; a 0, b 600: 3,000,000; a 153, b 0: 1,001,831; a 154, b 0: 1,000,000
-  pub dcf_usual : dcf_at 120 100 ≡ 1205807
+  pub hc_greatest : gases 0x461C3D9A 0 0 ≡ Ok (counts 9999 0 0)
+  -- DCF: a 1200, b 100: 1,205,807; a 0, b 600: 3,000,000; a 1530, b 0: 1,001,831; a 1540, b 0: 1,000,000
+  pub dcf_usual : dcf_at 1200 100 ≡ 1205807
   pub dcf_most : dcf_at 0 600 ≡ 3000000
-  pub dcf_above : dcf_at 153 0 ≡ 1001831
-  pub dcf_least : dcf_at 154 0 ≡ 1000000
+  pub dcf_above : dcf_at 1530 0 ≡ 1001831
+  pub dcf_least : dcf_at 1540 0 ≡ 1000000
   -- k: r 0: 739,449 (whatever p, and whatever B above 0); r 50, p 2339, B 1013: 897,914
   pub k_dry : (b p : ℕ) → 0 < b → k_h 0 b p ≡ 739449
   pub k_moist : k_h 50 1013 2339 ≡ 897914
@@ -179,7 +179,7 @@ pub record Worked : Type 0 where
   -- Document 02, A.3, "A 24-bit significand times 100 is at most 1,677,721,500": it is met where all 24 digits are 1, as in CO
   -- 1.9999999 (bits 0x3FFFFFFF), whose unit count is 200
   pub greatest_met : scaled 0x3FFFFFFF 100 ≡ greatest_product
-  pub co_all_digits : gases 0 0x3FFFFFFF ≡ Ok (counts 0 200)
+  pub co_all_digits : gases 0 0x3FFFFFFF 0 ≡ Ok (counts 0 200 0)
   -- Document 02, A.5, "HC < 15, CO < 2, NO < 25 and the residue is 0 to 7": each end from both sides; −1 is 65535, −32,768 is 32768
   pub stands_least : stands 0 0 0 0 ≡ true
   pub stands_most : stands 14 1 24 7 ≡ true
@@ -197,3 +197,8 @@ pub record Worked : Type 0 where
   pub no_above : above_at 9999 2000 5001 ≡ Some No
   pub co_above : above_at 9999 2001 5001 ≡ Some Co
   pub hc_greater : above_at 10000 2001 5001 ≡ Some Hc
+  -- Document 02, A.9, "Code 7 gets scale 100 and greatest value 1800": 18.004999 (bits 0x41900A3D): 1800; 18.005001 (bits 0x41900A3E) and
+  -- 18.049999 (bits 0x41906666), which tenths took as 18.0: refused 8, at code 7
+  pub co2_greatest : gases 0 0 0x41900A3D ≡ Ok (counts 0 0 1800)
+  pub co2_above : gases 0 0 0x41900A3E ≡ Err (ReadingUnfit 7)
+  pub co2_near_tenth : gases 0 0 0x41906666 ≡ Err (ReadingUnfit 7)

@@ -14,7 +14,7 @@ use Rattle.worked.specs.Events.{times, motorcycle}
 abbrev pub vehicle : Vehicle
 vehicle = vehicle_of (motorcycle 125 2) 2339
 
--- A second with this speed, load and HC in units; CO 100, NO 200, CO2 120.
+-- A second with this speed, load and HC in units; CO 100, NO 200, CO2 1200.
 abbrev pub units : ℕ → ℕ → ℕ → Input
 units speed load hc =
     a_second
@@ -25,7 +25,7 @@ units speed load hc =
       hc = hc;
       co = record { 0 = 100 };
       no = 200;
-      co2 = record { 0 = 120 };
+      co2 = record { 0 = 1200 };
       over = false;
       oxygen = level.Missing;
     })
