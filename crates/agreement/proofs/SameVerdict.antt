@@ -45,7 +45,8 @@ use Rattle.rejudging.specs.Sheets.{word_of, sheet_of}
 use Rattle.rejudging.specs.Taking.{units_given, row_given, item_given, stepped, ran_by}
 use Rattle.rejudging.specs.declared.Sheet.{Sheet}
 use Rattle.rejudging.proofs.WasRead.{vehicle_in}
-use Rattle.rejudging.proofs.Tested.{run_of, same_sheet}
+use Rattle.refusal.proofs.Answers.{ok_same}
+use Rattle.rejudging.proofs.Tested.{run_of}
 use Rattle.rejudging.proofs.WasRead.{start_fit}
 use Rattle.agreement.specs.Agreement.{event_of, EventsOf, verdicts_in, verdict_shown, Agrees, Agreement}
 use Rattle.agreement.proofs.Causes.{CausesFit, causes_fit}
@@ -112,7 +113,7 @@ module _ (s : List ℕ) (shape : Shape) (automatic : Bool) where
   agrees_ended [] [] clock b e y g v sheet n q ev r =
       let h = q ∙ ends y b e g v n in
       let k = g.verdict v n in
-      subst (Agrees b (e ∷ [])) (same_sheet _ _ r)
+      subst (Agrees b (e ∷ [])) (ok_same _ _ r)
       (record {
         accepted = rw h tt;
         verdicts = rw h (shows_verdict v.word v y.test k.0 k.1);
@@ -233,7 +234,7 @@ module _ (s : List ℕ) (shape : Shape) (automatic : Bool) where
       ran_by s shape automatic l x ≡ Ok sheet →
       Agrees b es sheet
   unfolding ran_by
-  follows [] [] last b x sheet ev c t h r = agrees_open b last x sheet t h (same_sheet _ _ r)
+  follows [] [] last b x sheet ev c t h r = agrees_open b last x sheet t h (ok_same _ _ r)
   follows [] (e ∷ es) last b x sheet ev c t h r = absurd ev
   follows (i ∷ l) [] last b x sheet ev c t h r = absurd ev
   follows (item.Row row ∷ l) (e ∷ es) last b x sheet ev c t h r =

@@ -1,3 +1,4 @@
+pub mod Answers
 pub mod Picked
 pub mod Exactly
 pub mod Checks

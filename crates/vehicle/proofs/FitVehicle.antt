@@ -7,6 +7,7 @@ use native.Mathlib.Omega.{arith}
 use borrow.Author.Tests.{eqb-true}
 use Rattle.std.specs.Prelude.{Ok, Err, Result}
 use Rattle.refusal.specs.declared.Refusal.{Refusal}
+use Rattle.refusal.proofs.Answers.{ok_same}
 use Rattle.refusal.proofs.Picked.{on_pick}
 use Rattle.correction.specs.Humidity.{saturation_fit}
 use Rattle.correction.proofs.Ranges.{in_range_lem, k_within}
@@ -51,14 +52,11 @@ derived_fit s p f g =
 never : (r : Refusal) (v : Vehicle) → ◌≡◌ {A = Result Vehicle Refusal} (Err r) (Ok v) → ⊥
 never r v e = let z : ◌≡◌ {A = ℕ} 0 1 = cc in omega arith
 
-same : (x y : Vehicle) → ◌≡◌ {A = Result Vehicle Refusal} (Ok x) (Ok y) → x ≡ y
-same x y e = cc
-
 pub checked_fit : CheckedFit
 unfolding checked_of
 checked_fit s p v =
     on_pick (λ (x : Result Vehicle Refusal). x ≡ Ok v → FitFor s p v) _ _ _
     (λ a. on_pick (λ (x : Result Vehicle Refusal). x ≡ Ok v → FitFor s p v) _ _ _
-    (λ b e. subst (FitFor s p) (same (vehicle_of s p) v e) (derived_fit s p (eqb-true _ _ a) b))
+    (λ b e. subst (FitFor s p) (ok_same (vehicle_of s p) v e) (derived_fit s p (eqb-true _ _ a) b))
     (λ b e. absurd (never _ v e)))
     (λ a e. absurd (never _ v e))

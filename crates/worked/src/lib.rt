@@ -1,4 +1,4 @@
-// Document 01, "Worked by hand", and figures and runs for document 02's A.1 to A.5 and A.8, computed from the definitions that the other crates' contracts cite.
+// Document 01, "Worked by hand", and figures and runs for document 02's A.1 to A.5, A.8 and A.9, computed from the definitions that the other crates' contracts cite.
 // Nothing is computed when the program runs: each function's contract is a claim, so that the claim cannot go without its proof.
 #![tactic(auto)]
 
