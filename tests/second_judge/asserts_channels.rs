@@ -16,6 +16,7 @@ use crate::own_asserts::{by_eights, Checks};
 use crate::reach_channels::{read_names, written_names, Seen};
 use crate::record::{read_record, write_record, Content};
 use crate::rejudging::rejudge_line;
+use crate::salvage_modes::salvage_item;
 use std::collections::BTreeSet;
 
 /// Document 01's listing with a channel of code 300 at a column.
@@ -233,7 +234,8 @@ impl Reached {
             let known = match topic {
                 1 => reached.read_item(&mut items),
                 2 => reached.write_item(&mut items),
-                _ => reached.line_item(&mut items),
+                3 => reached.line_item(&mut items),
+                _ => reached.salvage_item(&mut items),
             };
             known.expect("a whole item");
         }
@@ -266,6 +268,12 @@ impl Reached {
         if record.first() == Some(&0) {
             self.wide_lines.insert(rejudge_line(record));
         }
+        Some(())
+    }
+
+    fn salvage_item(&mut self, items: &mut Items) -> Option<()> {
+        let (length, _, record) = salvage_item(items)?;
+        self.bytes = self.bytes.max(length).max(record.len());
         Some(())
     }
 }

@@ -1,4 +1,4 @@
-//! Making input: reading, writing and the line, at the corners of the record.
+//! Making input: reading, writing and the line, at the corners of the record; and all vectors about records.
 
 use crate::channels::Form;
 use crate::dice::Dice;
@@ -6,6 +6,7 @@ use crate::items::Items;
 use crate::make_channels::{
     channel_corners, channel_records, longest_narrow, sized_content, wide_base, with_channel,
 };
+use crate::make_cuts::make_salvages;
 use crate::make_records::{
     damage_entry, damaged_record, put_item, raise_code, scripted_content, short_content, DAMAGES,
     READING_DAMAGES,
@@ -16,6 +17,7 @@ use crate::named_records::{listing, small_record, BEFORE_WIDE, PAST_WIDE, RECORD
 use crate::numbers::{refusal, MISSING};
 use crate::record::Content;
 use crate::rejudging::rejudge_line;
+use crate::salvage_modes::salvage_item;
 use crate::scripted_tests::SCRIPTS;
 
 /// Fit and unfit contents at the corners of the record.
@@ -288,7 +290,7 @@ pub fn make_write(seed: u64, count: usize) -> Vec<u8> {
     out
 }
 
-fn put_line_item(out: &mut Vec<u8>, length: usize, fill: u8, record: &[u8]) {
+pub fn put_line_item(out: &mut Vec<u8>, length: usize, fill: u8, record: &[u8]) {
     out.extend((length as u32).to_le_bytes());
     out.push(fill);
     put_item(out, record);
@@ -388,7 +390,7 @@ fn crowd(content: &mut Content, dice: &mut Dice) {
     content.cells.resize(rows * content.codes.len(), 5);
 }
 
-/// The items of `read`, `write` and `line`.
+/// The items of `read`, `write`, `line` and `salvages`.
 pub fn make_record_vectors(seed: u64, count: usize) -> Vec<u8> {
     let mut out = Vec::new();
     put_topic(&mut out, 1, &make_read(seed, count), |items| {
@@ -397,6 +399,9 @@ pub fn make_record_vectors(seed: u64, count: usize) -> Vec<u8> {
     put_writes(&mut out, &make_write(seed, count));
     put_topic(&mut out, 3, &make_line(seed, count), |items| {
         items.take(5).is_some() && items.record().is_some()
+    });
+    put_topic(&mut out, 4, &make_salvages(seed, count), |items| {
+        salvage_item(items).is_some()
     });
     out
 }

@@ -18,7 +18,7 @@ pub fn put_item(out: &mut Vec<u8>, record: &[u8]) {
     out.extend(record);
 }
 
-fn shuffle<T>(list: &mut [T], dice: &mut Dice) {
+pub fn shuffle<T>(list: &mut [T], dice: &mut Dice) {
     for i in (1..list.len()).rev() {
         list.swap(i, dice.below(i as u64 + 1) as usize);
     }

@@ -9,6 +9,7 @@ use crate::numbers::{
 use crate::record::{fnv, pairs, read_record, u32_at, write_record, Content};
 use crate::rejudging::rejudge_line;
 use crate::running::{Running, State, Step};
+use crate::salvage_modes::next_salvage_line;
 use crate::test::{Next, Standing};
 use crate::vehicle::Vehicle;
 use crate::window::{
@@ -439,12 +440,13 @@ pub fn mode_line(data: &[u8], out: &mut impl FnMut(&str)) {
     each_item(data, out, next_line_line);
 }
 
-/// An item behind its topic byte: 1 as in `read`, 2 as in `write`, 3 as in `line`.
+/// An item behind its topic byte: 1 as in `read`, 2 as in `write`, 3 as in `line`, 4 as in `salvages`.
 pub fn mode_record_vectors(data: &[u8], out: &mut impl FnMut(&str)) {
     each_item(data, out, |items| match items.u8() {
         Some(1) => next_read_line(items),
         Some(2) => next_write_line(items),
         Some(3) => next_line_line(items),
+        Some(4) => next_salvage_line(items),
         _ => None,
     });
 }

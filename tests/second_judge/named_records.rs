@@ -6,6 +6,7 @@ use crate::make_channels::{longest_narrow, longest_wide, with_channel};
 use crate::make_records::{content_of, until_verdict, Site};
 use crate::numbers::{MISSING, OVER};
 use crate::record::Content;
+use crate::salvage_modes::salvage_outputs;
 use crate::script::Script;
 
 /// Document 01's record: 36 rows of 25.0, 0.85, 100, 1.00, 200, 12.0.
@@ -316,7 +317,27 @@ fn damage_small(name: &str, content: &mut Content) {
     }
 }
 
-/// The named records that no script writes.
+/// A test of 60 rows with a stop before it moved, cut by a full card in the middle of row 41 and so without its
+/// stops. A dip at second 6 of measuring held its pass back, and it was still measuring.
+fn cut_record() -> Vec<u8> {
+    let site = Site {
+        settings: [1, 1999, 150, 1, 60, 25, 1005],
+        saturation: listing(0).saturation,
+    };
+    let mut script = Script::new(site.car(), 8);
+    script.vary();
+    script.idle(3, 10);
+    script.stop(3);
+    script.settle();
+    script.dip(6, 9, 60 - 3 - script.settling());
+    let codes = vec![1, 2, 3, 4, 5, 6, 7];
+    let content = content_of(&site, codes, &script.items, &mut Dice(8));
+    let (mut bytes, row) = (content.bytes(), 4 * content.codes.len());
+    bytes.truncate(content.settings_at() + 76 + 40 * row + row / 2);
+    bytes
+}
+
+/// The named records that no script writes, or not to their end.
 fn listed_sample(name: &str) -> Option<Vec<u8>> {
     Some(match name {
         "listing" => listing(36).bytes(),
@@ -329,6 +350,8 @@ fn listed_sample(name: &str) -> Option<Vec<u8>> {
         }
         // The listing with a channel of code 263 before that of code 7; its number is unfit for code 7.
         "wide" => with_channel(&listing(36), 5, 263, |_| (-1.0f32).to_bits()).bytes(),
+        "cut" => cut_record(),
+        "salvaged" => salvage_outputs(&cut_record()).0,
         // The longest record in each form, and one byte more.
         "too_long" => [longest_narrow().bytes(), vec![0]].concat(),
         "too_long_wide" => [longest_wide().bytes(), vec![0]].concat(),

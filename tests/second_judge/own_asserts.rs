@@ -27,6 +27,11 @@ use crate::asserts_prepare::{
 use crate::asserts_record::{
     check_line, check_named, check_records, check_round_trips, check_samples, check_writer,
 };
+use crate::asserts_salvage::{
+    check_cut_record, check_salvage_21, check_salvage_early, check_salvage_outputs,
+    check_salvage_refusals, check_salvaged_luck, check_salvaged_rows, check_salvaged_stops,
+};
+use crate::asserts_salvage_made::{check_cuts_made, check_every_length, check_salvage_laws};
 use crate::asserts_starts::check_start_lines;
 use crate::asserts_test::{
     check_ended, check_growing, check_kept, check_measuring, check_settling, check_voids, short,
@@ -38,6 +43,7 @@ use crate::asserts_windows::{
     check_emptied, check_invalid, check_invalid_printed, check_kept_invalid, check_window_names,
 };
 use crate::bench::Event;
+use crate::make_cuts::make_cuts;
 use crate::make_events::{least, make_events};
 use crate::make_journals::make_journals;
 use crate::make_records::make_records;
@@ -45,6 +51,7 @@ use crate::make_tests::make_tests;
 use crate::named_records::listing;
 use crate::numbers::unit_count;
 use crate::reach::Reach;
+use crate::reach_cuts::reach_cuts;
 use crate::reach_events::reach_events;
 use crate::reach_journals::reach_journals;
 use crate::reach_records::reach_records;
@@ -191,7 +198,7 @@ fn wrong_after_void(standing: Standing, void: u8) -> Next {
 
 /// The least sizes reach everything, whatever the seed.
 fn check_least(checks: &mut Checks) {
-    let [(_, records), (_, tests), (_, events), (_, journals)] = least();
+    let [(_, records), (_, tests), (_, events), (_, journals), (_, cuts)] = least();
     for seed in 1..=10 {
         let missing = |reach: Reach| reach.missing().join("; ");
         let made = make_records(seed, records);
@@ -202,11 +209,13 @@ fn check_least(checks: &mut Checks) {
         checks.same("events", missing(reach_events(&made)), String::new());
         let made = make_journals(seed, journals);
         checks.same("journals", missing(reach_journals(&made)), String::new());
+        let made = make_cuts(seed, cuts);
+        checks.same("cuts", missing(reach_cuts(&made)), String::new());
     }
 }
 
 /// All the asserts, in their order.
-const CHECKS: [fn(&mut Checks); 73] = [
+const CHECKS: [fn(&mut Checks); 84] = [
     check_readings,
     check_rounding,
     check_corrections,
@@ -242,6 +251,17 @@ const CHECKS: [fn(&mut Checks); 73] = [
     check_both_forms,
     check_widened,
     check_channel_cases,
+    check_salvaged_rows,
+    check_salvaged_luck,
+    check_salvaged_stops,
+    check_salvage_early,
+    check_salvage_refusals,
+    check_salvage_21,
+    check_salvage_outputs,
+    check_cut_record,
+    check_every_length,
+    check_salvage_laws,
+    check_cuts_made,
     check_tries,
     check_locks,
     check_bench,

@@ -19,6 +19,7 @@ mod prepare;
 mod record;
 mod rejudging;
 mod running;
+mod salvaging;
 mod test;
 mod vehicle;
 mod why;
@@ -28,13 +29,16 @@ mod window;
 mod items;
 mod journal_modes;
 mod modes;
+mod salvage_modes;
 
 // Making input.
+mod cut_corners;
 mod dice;
 mod driver;
 mod journal_corners;
 mod make_channels;
 mod make_corrections;
+mod make_cuts;
 mod make_events;
 mod make_journal_vectors;
 mod make_journals;
@@ -57,9 +61,11 @@ mod scripted_tests;
 mod scripted_windows;
 
 // What an input reaches.
+mod cut_seen;
 mod journal_walk;
 mod reach;
 mod reach_channels;
+mod reach_cuts;
 mod reach_dips;
 mod reach_engines;
 mod reach_events;
@@ -85,6 +91,8 @@ mod asserts_journals;
 mod asserts_numbers;
 mod asserts_prepare;
 mod asserts_record;
+mod asserts_salvage;
+mod asserts_salvage_made;
 mod asserts_starts;
 mod asserts_test;
 mod asserts_whys;
@@ -97,6 +105,7 @@ use crate::journal_modes::{
 };
 use crate::journaling::journal_lines;
 use crate::make_corrections::make_corrections;
+use crate::make_cuts::{make_cuts, make_salvages};
 use crate::make_events::{least, make_events};
 use crate::make_journal_vectors::make_journal_vectors;
 use crate::make_journals::make_journals;
@@ -111,11 +120,13 @@ use crate::modes::{
 use crate::named_journals::{named_journal, JOURNALS};
 use crate::named_records::{sample, RECORDS};
 use crate::own_asserts::selftest;
+use crate::reach_cuts::{reach_cuts, reach_salvages};
 use crate::reach_events::reach_events;
 use crate::reach_journals::reach_journals;
 use crate::reach_records::reach_records;
 use crate::reach_tests::reach_tests;
 use crate::rejudging::rejudge_line;
+use crate::salvage_modes::{mode_against_salvage, mode_salvages, salvage_outputs};
 use crate::why::why_lines;
 use std::io::{self, Read, Write};
 
@@ -155,8 +166,10 @@ fn made(kind: &str, seed: &str, count: &str) -> Result<Vec<u8>, String> {
         "read" => make_read,
         "write" => make_write,
         "line" => make_line,
+        "salvages" => make_salvages,
         "events" => make_events,
         "records" => make_records,
+        "cuts" => make_cuts,
         "journals" => make_journals,
         "journal_vectors" => make_journal_vectors,
         _ => return Err(format!("There is no input of the kind {kind} to make.")),
@@ -182,6 +195,7 @@ fn line_mode(mode: &str, data: &[u8], out: &mut impl FnMut(&str)) {
         "read" => mode_read(data, out),
         "write" => mode_write(data, out),
         "line" => mode_line(data, out),
+        "salvages" => mode_salvages(data, out),
         "record_vectors" => mode_record_vectors(data, out),
         "journal" => mode_journal(data, out),
         "journal-why" => why_lines(data).iter().for_each(|line| out(line)),
@@ -191,7 +205,7 @@ fn line_mode(mode: &str, data: &[u8], out: &mut impl FnMut(&str)) {
     }
 }
 
-const LINE_MODES: [&str; 15] = [
+const LINE_MODES: [&str; 16] = [
     "judge",
     "events",
     "readings",
@@ -201,6 +215,7 @@ const LINE_MODES: [&str; 15] = [
     "read",
     "write",
     "line",
+    "salvages",
     "record_vectors",
     "journal",
     "journal-why",
@@ -231,12 +246,24 @@ fn run(words: &[&str], out: &mut impl FnMut(&str)) -> Ended {
             return mode_against(program, &data, save, out)
                 .map_err(|error| format!("{program} cannot be run on the records: {error}."));
         }
+        ["salvage"] => {
+            let (record, line) = salvage_outputs(&stdin_bytes()?);
+            put_bytes(&record)?;
+            eprintln!("{line}");
+        }
+        ["against-salvage", program, file, save] => {
+            let data = file_bytes(file)?;
+            return mode_against_salvage(program, &data, save, out)
+                .map_err(|error| format!("{program} cannot be run on the records: {error}."));
+        }
         ["against-journals", mode, program, file, save] => {
             return against_journals(&[mode, program, file, save], out)
         }
         ["reach", "judge-many", file] => return Ok(reach_records(&file_bytes(file)?).report(out)),
+        ["reach", "cuts", file] => return Ok(reach_cuts(&file_bytes(file)?).report(out)),
         ["reach", "journals", file] => return Ok(reach_journals(&file_bytes(file)?).report(out)),
         ["reach", "events"] => return Ok(reach_events(&stdin_bytes()?).report(out)),
+        ["reach", "salvages"] => return Ok(reach_salvages(&stdin_bytes()?).report(out)),
         ["reach", "tests"] => return Ok(reach_tests(&stdin_bytes()?).report(out)),
         ["selftest"] => return Ok(selftest()),
         ["least"] => least()
