@@ -3,8 +3,8 @@
 use crate::items::Items;
 use crate::journaling::{events_of, journal_lines, read_journal, write_journal, Journal};
 use crate::modes::{each_item, same_text, written_line};
-use std::io::{self, Write};
-use std::process::{Command, Stdio};
+use crate::programs::{each_against, Ended};
+use std::io;
 
 pub fn mode_journal(data: &[u8], out: &mut impl FnMut(&str)) {
     journal_lines(data).iter().for_each(|line| out(line));
@@ -19,46 +19,17 @@ pub fn mode_against_journals(
     save: &str,
     out: &mut impl FnMut(&str),
 ) -> io::Result<bool> {
-    let mut items = Items { data };
-    let (mut same, mut other) = (0, 0);
-    while let Some(journal) = items.record() {
+    each_against(data, ("journal", save), out, |journal| {
         let lines = lines_of(journal).into_iter();
         let expected: String = lines.map(|line| line + "\n").collect();
-        let (got, status) = output_of(program, journal)?;
-        if got == expected && status == "0" {
-            same += 1;
-            continue;
-        }
-        other += 1;
-        if other == 1 {
-            std::fs::write(save, journal)?;
-            let how = first_difference(&expected, &got);
-            out(&format!(
-                "{how}, exit status {status}: the journal is {save}"
-            ));
-        }
-    }
-    out(&format!("{same} passed, {other} failed"));
-    Ok(other == 0)
-}
-
-/// What a program writes for a journal on its standard input, and its exit status.
-fn output_of(program: &str, journal: &[u8]) -> io::Result<(String, String)> {
-    let mut child = Command::new(program)
-        .stdin(Stdio::piped())
-        .stdout(Stdio::piped())
-        .spawn()?;
-    let mut input = child.stdin.take().expect("a piped input");
-    // A program that has its answer may leave the rest unread.
-    let _ = input.write_all(journal);
-    drop(input);
-    let ended = child.wait_with_output()?;
-    let text = String::from_utf8_lossy(&ended.stdout).into_owned();
-    let status = ended.status.code();
-    Ok((
-        text,
-        status.map_or("none".to_string(), |code| code.to_string()),
-    ))
+        let ended = Ended::of(program, journal)?;
+        let (got, status) = (ended.text(), &ended.status);
+        let how = || {
+            let first = first_difference(&expected, &got);
+            format!("{first}, exit status {status}")
+        };
+        Ok((got != expected || status != "0").then(how))
+    })
 }
 
 /// The first line that differs; a newline that is missing at the end shows.

@@ -7,7 +7,7 @@ use crate::cut_corners::{
 };
 use crate::dice::Dice;
 use crate::make_channels::{longest_narrow, longest_wide, required_up_to, with_channel};
-use crate::make_record_vectors::put_line_item;
+use crate::make_record_vectors::{put_line_item, some_length};
 use crate::make_records::{
     damaged_record, put_item, scripted_content, short_content, shuffle, Site, READING_DAMAGES,
 };
@@ -374,11 +374,7 @@ pub fn make_salvages(seed: u64, count: usize) -> Vec<u8> {
     for _ in 0..count {
         let record = some_short_cut(&mut dice);
         let needed = written_length(&record).unwrap_or(120);
-        let length = match dice.below(4) {
-            0 => dice.below(needed as u64 + 1) as usize,
-            1 => needed + dice.below(40) as usize,
-            _ => needed,
-        };
+        let length = some_length(&mut dice, needed);
         put_line_item(&mut out, length, dice.next() as u8, &record);
     }
     out

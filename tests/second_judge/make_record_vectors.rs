@@ -280,14 +280,19 @@ pub fn make_write(seed: u64, count: usize) -> Vec<u8> {
     for _ in 0..count {
         let content = random_content(&mut dice);
         let needed = content.bytes().len();
-        let length = match dice.below(4) {
-            0 => dice.below(needed as u64 + 1) as usize,
-            1 => needed + dice.below(40) as usize,
-            _ => needed,
-        };
+        let length = some_length(&mut dice, needed);
         put_content(&mut out, length, dice.next() as u8, &content);
     }
     out
+}
+
+/// An output's length: mostly what is needed, else less or more.
+pub fn some_length(dice: &mut Dice, needed: usize) -> usize {
+    match dice.below(4) {
+        0 => dice.below(needed as u64 + 1) as usize,
+        1 => needed + dice.below(40) as usize,
+        _ => needed,
+    }
 }
 
 pub fn put_line_item(out: &mut Vec<u8>, length: usize, fill: u8, record: &[u8]) {

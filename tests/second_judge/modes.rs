@@ -6,6 +6,7 @@ use crate::items::Items;
 use crate::numbers::{
     dilution_factor, judge_reading, judge_readings, refusal, second_of, Reading, Refusal,
 };
+use crate::programs::{each_against, Ended};
 use crate::record::{fnv, pairs, read_record, u32_at, write_record, Content};
 use crate::rejudging::rejudge_line;
 use crate::running::{Running, State, Step};
@@ -16,8 +17,7 @@ use crate::window::{
     averages, engine_mean, engine_text, measured_of, window_passes, window_sums, window_valid,
     Measured,
 };
-use std::io::{self, Write};
-use std::process::{Command, Stdio};
+use std::io;
 
 pub fn answer_line(answer: &Answer) -> String {
     match answer {
@@ -61,38 +61,16 @@ pub fn mode_against(
     save: &str,
     out: &mut impl FnMut(&str),
 ) -> io::Result<bool> {
-    let mut items = Items { data };
-    let (mut same, mut other) = (0, 0);
-    while let Some(record) = items.record() {
+    each_against(data, ("record", save), out, |record| {
         let (expected, got) = (rejudge_line(record), line_of_program(program, record)?);
-        if got == expected {
-            same += 1;
-            continue;
-        }
-        other += 1;
-        if other == 1 {
-            std::fs::write(save, record)?;
-            out(&format!(
-                "expected {expected}, got {got}: the record is {save}"
-            ));
-        }
-    }
-    out(&format!("{same} passed, {other} failed"));
-    Ok(other == 0)
+        Ok((got != expected).then(|| format!("expected {expected}, got {got}")))
+    })
 }
 
 /// What a program writes for a record on its standard input, without the
 /// newline at the end; a second line or none shows.
 fn line_of_program(program: &str, record: &[u8]) -> io::Result<String> {
-    let mut child = Command::new(program)
-        .stdin(Stdio::piped())
-        .stdout(Stdio::piped())
-        .spawn()?;
-    let mut input = child.stdin.take().expect("a piped input");
-    // A program that has its answer may leave the rest unread.
-    let _ = input.write_all(record);
-    drop(input);
-    let text = String::from_utf8_lossy(&child.wait_with_output()?.stdout).into_owned();
+    let text = Ended::of(program, record)?.text();
     Ok(text.strip_suffix('\n').unwrap_or("(no line)").to_string())
 }
 

@@ -2,10 +2,10 @@
 
 use crate::items::Items;
 use crate::modes::each_item;
+use crate::programs::{each_against, Ended};
 use crate::record::fnv;
 use crate::salvaging::{salvage, salvage_into, Salvaged};
-use std::io::{self, Write};
-use std::process::{Command, Stdio};
+use std::io;
 
 /// An output that every salvaged record fits in.
 pub const ENOUGH: usize = 60_965;
@@ -54,55 +54,23 @@ pub fn mode_salvages(data: &[u8], out: &mut impl FnMut(&str)) {
     each_item(data, out, next_salvage_line);
 }
 
-/// All that a program writes for a record on its standard input, and its exit status.
-#[derive(PartialEq, Eq)]
-struct Written {
-    output: Vec<u8>,
-    error: Vec<u8>,
-    status: String,
+/// What a program should write for a record.
+fn expected(record: &[u8]) -> Ended {
+    let (output, line) = salvage_outputs(record);
+    Ended {
+        output,
+        error: (line + "\n").into_bytes(),
+        status: "0".to_string(),
+    }
 }
 
-impl Written {
-    fn expected(record: &[u8]) -> Written {
-        let (output, line) = salvage_outputs(record);
-        Written {
-            output,
-            error: (line + "\n").into_bytes(),
-            status: "0".to_string(),
-        }
-    }
-
-    /// The record is fed beside the reading of both outputs, so that neither waits for the other.
-    fn by(program: &str, record: &[u8]) -> io::Result<Written> {
-        let mut child = Command::new(program)
-            .stdin(Stdio::piped())
-            .stdout(Stdio::piped())
-            .stderr(Stdio::piped())
-            .spawn()?;
-        let mut input = child.stdin.take().expect("a piped input");
-        let ended = std::thread::scope(|scope| {
-            // A program that has its answer may leave the rest unread.
-            scope.spawn(move || {
-                let _ = input.write_all(record);
-            });
-            child.wait_with_output()
-        })?;
-        let status = ended.status.code();
-        Ok(Written {
-            output: ended.stdout,
-            error: ended.stderr,
-            status: status.map_or("none".to_string(), |code| code.to_string()),
-        })
-    }
-
-    fn text(&self) -> String {
-        let error = String::from_utf8_lossy(&self.error).into_owned();
-        let (bytes, hash) = (self.output.len(), fnv(&self.output));
-        format!(
-            "{error:?}, {bytes} bytes with hash {hash}, exit status {}",
-            self.status
-        )
-    }
+fn ended_text(ended: &Ended) -> String {
+    let error = String::from_utf8_lossy(&ended.error).into_owned();
+    let (bytes, hash) = (ended.output.len(), fnv(&ended.output));
+    format!(
+        "{error:?}, {bytes} bytes with hash {hash}, exit status {}",
+        ended.status
+    )
 }
 
 /// Runs a program on each record and compares all that it writes with ours. The first record that
@@ -113,23 +81,12 @@ pub fn mode_against_salvage(
     save: &str,
     out: &mut impl FnMut(&str),
 ) -> io::Result<bool> {
-    let mut items = Items { data };
-    let (mut same, mut other) = (0, 0);
-    while let Some(record) = items.record() {
-        let (expected, got) = (Written::expected(record), Written::by(program, record)?);
-        if got == expected {
-            same += 1;
-            continue;
-        }
-        other += 1;
-        if other == 1 {
-            std::fs::write(save, record)?;
-            let (expected, got) = (expected.text(), got.text());
-            out(&format!(
-                "expected {expected}; got {got}: the record is {save}"
-            ));
-        }
-    }
-    out(&format!("{same} passed, {other} failed"));
-    Ok(other == 0)
+    each_against(data, ("record", save), out, |record| {
+        let (expected, got) = (expected(record), Ended::of(program, record)?);
+        let how = || {
+            let (expected, got) = (ended_text(&expected), ended_text(&got));
+            format!("expected {expected}; got {got}")
+        };
+        Ok((got != expected).then(how))
+    })
 }

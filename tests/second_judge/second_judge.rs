@@ -29,6 +29,7 @@ mod window;
 mod items;
 mod journal_modes;
 mod modes;
+mod programs;
 mod salvage_modes;
 
 // Making input.
