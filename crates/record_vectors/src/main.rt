@@ -1,9 +1,10 @@
-// Runs the record's reader and writer and the rejudge line on the items of standard input and prints a line for each.
+// Runs the record's reader and writer, the rejudge line and salvaging on the items of standard input and prints a line for each.
 // An item is a topic byte and, little-endian:
 //   1, read:  a record: its length in 4 bytes, then its bytes.
 //   2, write: the output's length in 4 bytes, its fill byte, then the six runs of a content, each after its count (the cells'
 //             in 4 bytes, the others' in 2).
 //   3, line:  the output's length in 4 bytes, its fill byte, then a record as in 1.
+//   4, salvages: as 3.
 // A length or a count beyond the space of the program is cut to it. A record that is read is written again from its accessors,
 // and what is written is read again: the last word of such a line tells whether the same came back. The stored output is
 // not the program's own.
@@ -13,6 +14,7 @@ mod content;
 mod input;
 mod lines;
 mod reads;
+mod salvages;
 mod writes;
 
 use std::alloc::Global;
@@ -25,6 +27,7 @@ fn item(input: &mut impl Read, output: &mut impl Write, alloc: Global) -> io::Re
         1 => reads::item(input, output, alloc)?,
         2 => writes::item(input, output, alloc)?,
         3 => lines::item(input, output, alloc)?,
+        4 => salvages::item(input, output, alloc)?,
         _ => return Ok(false),
     }
     Ok(true)

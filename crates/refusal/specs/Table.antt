@@ -2,7 +2,7 @@
 use Rattle.std.specs.Prelude.{ℕ, List, ◌++◌, codes}
 use Rattle.std.specs.Fmt.{decimal}
 use Rattle.refusal.specs.declared.Refusal.{Refusal}
-use Rattle.refusal.specs.declared.Refusal.TheVariants.{EndsEarly, CountNotAllowed, CodeUnfit, SettingUnfit, SaturationUnfit, StopUnfit, BytesLeft, ReadingUnfit, AfterVerdict, OutputShort, ClockEarlier, TestRunning, NoTest, StartLocked, CauseUnfit, InertiaUnfit, PowerUnfit, BackgroundUnfit, WideNotNeeded, EventUnfit}
+use Rattle.refusal.specs.declared.Refusal.TheVariants.{EndsEarly, CountNotAllowed, CodeUnfit, SettingUnfit, SaturationUnfit, StopUnfit, BytesLeft, ReadingUnfit, AfterVerdict, OutputShort, ClockEarlier, TestRunning, NoTest, StartLocked, CauseUnfit, InertiaUnfit, PowerUnfit, BackgroundUnfit, WideNotNeeded, EventUnfit, RowsNotAllowed}
 
 -- A row's number.
 abbrev pub number_of : Refusal → ℕ
@@ -26,6 +26,7 @@ number_of PowerUnfit = 17
 number_of (BackgroundUnfit code) = 18
 number_of (WideNotNeeded offset) = 19
 number_of (EventUnfit offset) = 20
+number_of (RowsNotAllowed offset) = 21
 
 -- "place returned"; 0 where the row has none.
 abbrev pub place_of : Refusal → ℕ
@@ -69,6 +70,8 @@ place_of (BackgroundUnfit code) = code
 place_of (WideNotNeeded offset) = offset
 -- unknown kind of event in a journal, or a yes-or-no byte above 1: its offset (document 02, A.7)
 place_of (EventUnfit offset) = offset
+-- row count of a record to be salvaged more than is allowed: its offset (document 02, A.10)
+place_of (RowsNotAllowed offset) = offset
 
 -- "refused, number, place", with single spaces between.
 abbrev pub refusal_text : Refusal → List ℕ

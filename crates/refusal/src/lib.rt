@@ -49,6 +49,8 @@ pub enum Refusal {
     WideNotNeeded(usize),
     // unknown kind of event in a journal, or a yes-or-no byte above 1: its offset
     EventUnfit(usize),
+    // row count of a record to be salvaged more than is allowed: its offset
+    RowsNotAllowed(usize),
 }
 
 // What one check tells.
@@ -80,6 +82,7 @@ impl Refusal {
             Refusal::BackgroundUnfit(_) => 18,
             Refusal::WideNotNeeded(_) => 19,
             Refusal::EventUnfit(_) => 20,
+            Refusal::RowsNotAllowed(_) => 21,
         }
     }
 
@@ -99,7 +102,8 @@ impl Refusal {
             | Refusal::AfterVerdict(place)
             | Refusal::OutputShort(place)
             | Refusal::WideNotNeeded(place)
-            | Refusal::EventUnfit(place) => place,
+            | Refusal::EventUnfit(place)
+            | Refusal::RowsNotAllowed(place) => place,
             Refusal::ClockEarlier(clock) => clock as usize,
             Refusal::StartLocked(lock) => lock as usize,
             Refusal::BackgroundUnfit(code) => code as usize,

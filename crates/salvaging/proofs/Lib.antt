@@ -1,0 +1,12 @@
+pub mod Sound
+pub mod Puts
+pub mod Told
+pub mod Written
+pub mod Contents
+pub mod Accounts
+pub mod Again
+pub mod Alike
+pub mod Prefix
+pub mod Keeping
+pub mod Saves
+pub mod Claimed

@@ -1,0 +1,4 @@
+pub mod Salvage
+pub mod Answers
+pub mod Saving
+pub mod Claims
