@@ -1,5 +1,5 @@
 // The salvage program: a record that a full card cut on standard input, what is left of it on standard output, one line on standard error.
-// Its buffers are the record's and the salvaged record's, 60,966 bytes each; to read on and to print std has some more.
+// Its buffers are the record's and the salvaged record's, 60,966 bytes each; to read on std has 8,192 more, to print an error 1,024.
 #![tactic(auto)]
 
 use std::io;
