@@ -1,7 +1,8 @@
 // The program's streams: a record from its input, what is left of it to its output, and one line.
 ghost use Rattle.std.specs.Prelude.{◌≡◌, OnOk, IfSome};
 ghost use Rattle.std.specs.Io.KnownBytes.{Appends};
-ghost use Rattle.salvaging.specs.Saving.{with_more, saved_bytes, saved_line};
+ghost use Rattle.salvaging.specs.Answers.{with_more};
+ghost use Rattle.salvaging.specs.Saving.{counted, saved_bytes, saved_line};
 
 use crate::Salvaged;
 use std::io;
@@ -9,7 +10,7 @@ use std::io::{Read, Write};
 
 // Bytes that were read on beyond those that were salvaged are dropped too.
 fn with_more(x: Salvaged, more: u64) -> Salvaged
-    ensures { result ≡ with_more more x }
+    ensures { result ≡ counted (with_more more x) }
 {
     let bytes_dropped = x.bytes_dropped.saturating_add(more as usize);
     Salvaged { bytes_dropped, ..x }
