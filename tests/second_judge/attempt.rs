@@ -53,8 +53,9 @@ pub struct Attempt {
     pub passing: usize,
     pub failing: usize,
     pub invalid: usize,
-    pub window: Option<Averages>, // of the last valid window
-    pub engine: Option<u128>,     // the mean of that window, none with a speed missing
+    pub window: Option<Averages>,  // of the last valid window
+    pub window_end: Option<usize>, // of the list, the second that ends that window
+    pub engine: Option<u128>,      // the mean of that window, none with a speed missing
     pub did: Did,
     pub end: Option<End>,
     pub seconds_used: usize, // first second of the list not yet looked at
@@ -97,6 +98,7 @@ pub fn judge_attempt(
             attempt.stops_used += cut.stops;
         }
     }
+    attempt.window_end = attempt.window_end.map(|end| first + end);
     attempt.seconds_used += first;
     attempt.stops_used += idle_stops;
     assert!(attempt.accounted(), "a window is not accounted for");
@@ -177,6 +179,7 @@ fn settle_and_measure(car: &Vehicle, mode: u8, counted: &[Second]) -> Attempt {
         failing: 0,
         invalid: 0,
         window: None,
+        window_end: None,
         engine: None,
         did: Did::Nothing,
         end: None,
@@ -337,6 +340,7 @@ fn measure(car: &Vehicle, mode: u8, counted: &[Second], begin: usize, attempt: &
         let run = judge_run(car, &list[start..stop]);
         if run.end.is_some() || restart.is_none() {
             keep_run(&run, &list[start..start + run.t], attempt, car);
+            attempt.window_end = run.last_valid.map(|i| begin + start + i);
             (attempt.u, attempt.w) = outs(&out[start..start + run.t]);
             attempt.seconds_used = begin + start + run.t;
             break;

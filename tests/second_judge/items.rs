@@ -2,6 +2,7 @@
 
 use crate::bench::Event;
 use crate::coast_down::Run;
+use crate::exact_averages::Case;
 use crate::prepare::Prepare;
 use crate::record::{u16_at, u32_at};
 
@@ -46,6 +47,16 @@ impl<'a> Items<'a> {
             *value = self.u32()?;
         }
         Some(bits)
+    }
+
+    /// Settings, p, ten seconds of readings.
+    pub fn case(&mut self) -> Option<Case> {
+        let (settings, p) = (self.settings()?, self.u16()?);
+        let mut ten = [[0; 8]; 10];
+        for second in &mut ten {
+            *second = self.readings()?;
+        }
+        Some(Case { settings, p, ten })
     }
 
     pub fn run(&mut self) -> Option<Run> {

@@ -1,7 +1,7 @@
 //! Making input: DCF, k, windows at the limits, loads.
 
 use crate::dice::{some_settings, spoil_setting, Dice};
-use crate::numbers::{dilution_factor, humidity_factor, MISSING, OVER};
+use crate::numbers::{dilution_divisor, dilution_factor, humidity_factor, MISSING, OVER};
 use crate::script::{bits_of, Item, Script};
 use crate::vehicle::{saturation_fits, Vehicle};
 
@@ -22,6 +22,11 @@ fn put_k(out: &mut Vec<u8>, settings: &[u16; 7], p: u16) {
 
 fn put_window(out: &mut Vec<u8>, mode: u8, settings: &[u16; 7], p: u16, ten: &[[u32; 8]]) {
     out.extend([3, mode]);
+    put_ten(out, settings, p, ten);
+}
+
+/// Settings, p, ten seconds of readings.
+pub fn put_ten(out: &mut Vec<u8>, settings: &[u16; 7], p: u16, ten: &[[u32; 8]]) {
     put_words(out, settings);
     put_words(out, &[p]);
     ten.iter()
@@ -73,7 +78,7 @@ fn pairs_at_a_half() -> Vec<(u16, u16)> {
     let mut close: Vec<(u64, u16, u16)> = Vec::new();
     for a in 0..=1800u16 {
         for b in 0..=2000u16 {
-            let d = 6_524 * a as u64 + 4_644 * b as u64;
+            let d = dilution_divisor(a as u128, b as u128) as u64;
             if d > 3_333_333 && d < 10_000_000 {
                 // How far 2·10^13/D is from an odd whole number, in 1/D.
                 let over = (20_000_000_000_000 + d) % (2 * d);

@@ -3,6 +3,7 @@
 use crate::bench::{calibration_lacks, run_lacks, since_power, Bench, Event};
 use crate::dice::{some_settings, Dice};
 use crate::driver::Driver;
+use crate::make_averages::REACHING_AVERAGES;
 use crate::make_cuts::reaching_cuts;
 use crate::make_journals::reaching_journals;
 use crate::make_prepares::{any_prepare, failed_prepare, standing_prepare, unfit_prepare};
@@ -37,8 +38,8 @@ fn parameters(seed: u64, dice: &mut Dice) -> (u32, u16) {
 }
 
 /// The least COUNT with which `make records`, `make tests`, `make events`,
-/// `make journals` and `make cuts` reach everything.
-pub fn least() -> [(&'static str, usize); 5] {
+/// `make journals`, `make cuts` and `make averages` reach everything.
+pub fn least() -> [(&'static str, usize); 6] {
     let events = scripted_events(1, MOST_SEEDED_U, &mut Dice(1)).len();
     [
         ("records", reaching_records()),
@@ -46,6 +47,7 @@ pub fn least() -> [(&'static str, usize); 5] {
         ("events", events),
         ("journals", reaching_journals()),
         ("cuts", reaching_cuts()),
+        ("averages", REACHING_AVERAGES),
     ]
 }
 

@@ -2,6 +2,7 @@
 
 use crate::attempt::{Did, Stage};
 use crate::bench::{step_of, Answer, Bench, Event};
+use crate::exact_averages::Case;
 use crate::items::Items;
 use crate::numbers::{
     dilution_factor, judge_reading, judge_readings, refusal, second_of, Reading, Refusal,
@@ -157,11 +158,7 @@ pub fn correction_item(items: &mut Items) -> Option<String> {
 }
 
 fn window_item(items: &mut Items) -> Option<String> {
-    let (mode, settings, p) = (items.u8()?, items.settings()?, items.u16()?);
-    let mut ten = Vec::new();
-    for _ in 0..10 {
-        ten.push(items.readings()?);
-    }
+    let (mode, Case { settings, p, ten }) = (items.u8()?, items.case()?);
     Some(window_line(mode, &settings, p, &ten).unwrap_or_else(|refusal| refusal.to_string()))
 }
 

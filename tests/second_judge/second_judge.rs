@@ -11,8 +11,11 @@
 // Judging.
 mod attempt;
 mod bench;
+mod big;
 mod channels;
 mod coast_down;
+mod exact_averages;
+mod floats;
 mod journaling;
 mod numbers;
 mod prepare;
@@ -26,6 +29,7 @@ mod why;
 mod window;
 
 // The modes and their input.
+mod averages_modes;
 mod items;
 mod journal_modes;
 mod modes;
@@ -33,10 +37,12 @@ mod programs;
 mod salvage_modes;
 
 // Making input.
+mod averages_corners;
 mod cut_corners;
 mod dice;
 mod driver;
 mod journal_corners;
+mod make_averages;
 mod make_channels;
 mod make_corrections;
 mod make_cuts;
@@ -100,11 +106,15 @@ mod asserts_whys;
 mod asserts_windows;
 mod own_asserts;
 
+use crate::averages_modes::{
+    averages_line, mode_against_averages, mode_averages_vectors, mode_check_averages,
+};
 use crate::journal_modes::{
     mode_against_journals, mode_journal, mode_journal_read, mode_journal_vectors,
     mode_journal_write,
 };
 use crate::journaling::journal_lines;
+use crate::make_averages::{make_averages, make_exact_averages};
 use crate::make_corrections::make_corrections;
 use crate::make_cuts::{make_cuts, make_salvages};
 use crate::make_events::{least, make_events};
@@ -173,6 +183,8 @@ fn made(kind: &str, seed: &str, count: &str) -> Result<Vec<u8>, String> {
         "cuts" => make_cuts,
         "journals" => make_journals,
         "journal_vectors" => make_journal_vectors,
+        "averages" => make_averages,
+        "exact_averages" => make_exact_averages,
         _ => return Err(format!("There is no input of the kind {kind} to make.")),
     };
     let (seed, count) = (number("SEED", seed)?, number("COUNT", count)?);
@@ -202,11 +214,13 @@ fn line_mode(mode: &str, data: &[u8], out: &mut impl FnMut(&str)) {
         "journal-why" => why_lines(data).iter().for_each(|line| out(line)),
         "journal_read" => mode_journal_read(data, out),
         "journal_write" => mode_journal_write(data, out),
+        "averages" => out(&averages_line(data)),
+        "averages_vectors" => mode_averages_vectors(data, out),
         _ => mode_journal_vectors(data, out),
     }
 }
 
-const LINE_MODES: [&str; 16] = [
+const LINE_MODES: [&str; 18] = [
     "judge",
     "events",
     "readings",
@@ -222,6 +236,8 @@ const LINE_MODES: [&str; 16] = [
     "journal-why",
     "journal_read",
     "journal_write",
+    "averages",
+    "averages_vectors",
     "journal_vectors",
 ];
 
@@ -255,6 +271,15 @@ fn run(words: &[&str], out: &mut impl FnMut(&str)) -> Ended {
         ["against-salvage", program, file, save] => {
             let data = file_bytes(file)?;
             return mode_against_salvage(program, &data, save, out)
+                .map_err(|error| format!("{program} cannot be run on the records: {error}."));
+        }
+        ["check-averages", cases, lines] => {
+            let (cases, lines) = (file_bytes(cases)?, file_bytes(lines)?);
+            return Ok(mode_check_averages(&cases, &lines, out));
+        }
+        ["against-averages", program, file, save] => {
+            let data = file_bytes(file)?;
+            return mode_against_averages(program, &data, save, out)
                 .map_err(|error| format!("{program} cannot be run on the records: {error}."));
         }
         ["against-journals", mode, program, file, save] => {

@@ -108,6 +108,7 @@ pub struct Judged {
     pub failing: usize,
     pub invalid: usize,
     pub window: Option<Averages>,
+    pub window_end: Option<usize>, // the second that ends it
     pub engine: Option<u128>,
     pub voids: Vec<u8>, // of all its attempts, in order
     pub seconds_used: usize,
@@ -184,6 +185,7 @@ fn judged(
         failing: attempt.map_or(0, |a| a.failing),
         invalid: attempt.map_or(0, |a| a.invalid),
         window: attempt.and_then(|a| a.window),
+        window_end: attempt.and_then(|a| a.window_end),
         engine: attempt.and_then(|a| a.engine),
         voids,
         seconds_used,
