@@ -3,6 +3,7 @@
 use crate::exact_averages::Case;
 use crate::numbers::{dilution_divisor, judge_reading, Reading, GREATEST, MISSING, OVER};
 use crate::script::{bits_of, nearest_bits};
+use crate::vehicle::setting_ranges;
 
 const MANUAL: u16 = 1;
 
@@ -81,7 +82,7 @@ fn sums() -> Vec<Case> {
     list
 }
 
-/// The least bits that count as so many units, with a side of −1, or the greatest, with 1. Positive units.
+/// The least bits above zero that count as so many units, with a side of −1, or the greatest, with 1.
 pub fn edge_bits(code: u8, units: i64, side: i32) -> u32 {
     let counts = |bits: u32| judge_reading(code, false, bits) == Some(Reading::Units(units));
     let mut bits = nearest_bits(code, units as f64 + side as f64 / 2.0);
@@ -90,6 +91,19 @@ pub fn edge_bits(code: u8, units: i64, side: i32) -> u32 {
     }
     while !counts(bits) {
         bits = bits.wrapping_add_signed(-side);
+    }
+    bits
+}
+
+/// The bits farthest below zero that count as 0: the greatest of those with a sign.
+fn zero_edge(code: u8) -> u32 {
+    let counts = |bits: u32| judge_reading(code, false, bits) == Some(Reading::Units(0));
+    let mut bits = nearest_bits(code, -0.5);
+    while counts(bits) {
+        bits += 1;
+    }
+    while !counts(bits) {
+        bits -= 1;
     }
     bits
 }
@@ -144,17 +158,8 @@ fn unfit_readings() -> Vec<Case> {
 
 /// Each setting at both ends of its range and one beside them.
 fn settings() -> Vec<Case> {
-    let ends = [
-        (1, 2),
-        (1900, 2100),
-        (1, 2000),
-        (1, 2),
-        (0, 100),
-        (2, 43),
-        (800, 1100),
-    ];
     let mut list = Vec::new();
-    for (i, (least, greatest)) in ends.into_iter().enumerate() {
+    for (i, (least, greatest)) in setting_ranges(1).into_iter().enumerate() {
         let below = (least > 0).then(|| least - 1);
         let values = [Some(least), Some(greatest), Some(greatest + 1), below];
         for value in values.into_iter().flatten() {
@@ -285,23 +290,28 @@ fn ends_of_k() -> Vec<Case> {
     list
 }
 
-/// Each code's minus zero, and the least and greatest bits of its units.
+/// Each code's minus zero, the least and greatest bits of its units, and the first that are unfit.
 fn edges() -> Vec<Case> {
     let mut list = Vec::new();
     for code in 1..=8u8 {
-        list.push(changed(|c| {
-            c.set_pair(5, (1200, 600));
-            c.set_bits(5, code, 0x8000_0000);
-        }));
         let greatest = GREATEST[code as usize - 1] as i64;
+        let (below, above) = (zero_edge(code), edge_bits(code, greatest, 1));
+        let mut edges = vec![
+            0x8000_0000,
+            edge_bits(code, 0, 1),
+            below,
+            below + 1,
+            above + 1,
+        ];
         for units in [1, 123, greatest - 1, greatest] {
-            for side in [-1, 1] {
-                list.push(changed(|c| {
-                    c.set_pair(5, (1200, 600));
-                    c.set_bits(5, code, edge_bits(code, units, side));
-                }));
-            }
+            edges.extend([-1, 1].map(|side| edge_bits(code, units, side)));
         }
+        list.extend(edges.into_iter().map(|bits| {
+            changed(|c| {
+                c.set_pair(5, (1200, 600));
+                c.set_bits(5, code, bits);
+            })
+        }));
     }
     // Document 01's CO of 100 that a float product takes for 101.
     list.push(changed(|c| c.set_bits(0, 5, 0x3F80_A3D7)));
@@ -328,6 +338,24 @@ fn many_faults() -> Vec<Case> {
     ]
 }
 
+/// HC, CO and NO zero in all seconds, outside the premise for each reason.
+fn zeros_outside() -> Vec<Case> {
+    let changes: [fn(&mut Case); 5] = [
+        |c| c.settings[4] = 101,
+        |c| c.p = 499,
+        |c| c.set(9, 1, 1000),
+        |c| c.set_bits(9, 7, OVER),
+        |c| c.set(9, 7, 599),
+    ];
+    let with = |change: &fn(&mut Case)| {
+        changed(|c| {
+            (4..=6).for_each(|code| c.set_all(code, 0));
+            change(c);
+        })
+    };
+    changes.iter().map(with).collect()
+}
+
 pub fn averages_corners() -> Vec<Case> {
     let mut list = vec![plain(MANUAL), plain(AUTOMATIC)];
     for more in [
@@ -342,6 +370,7 @@ pub fn averages_corners() -> Vec<Case> {
         ends_of_k(),
         edges(),
         many_faults(),
+        zeros_outside(),
     ] {
         list.extend(more);
     }

@@ -73,7 +73,8 @@ impl Checked {
         let number = self.passed + self.failed;
         self.first.get_or_insert_with(|| {
             let expected = averages.map_or("no line".to_string(), |a| floats_line(&a));
-            format!("case {number}: expected {expected} or near it, got {line:?}")
+            let got = line.map_or("no line".to_string(), |line| format!("{line:?}"));
+            format!("case {number}: expected {expected} or near it, got {got}")
         });
     }
 

@@ -5,6 +5,8 @@ use crate::dice::{some_settings, spoil_setting, Dice};
 use crate::driver::unfit_bits;
 use crate::exact_averages::Case;
 use crate::make_corrections::put_ten;
+use crate::make_records::{make_records, put_item};
+use crate::named_records::{sample, ZERO_RECORDS};
 use crate::numbers::OVER;
 use crate::script::bits_of;
 
@@ -46,10 +48,22 @@ pub fn make_exact_averages(seed: u64, count: usize) -> Vec<u8> {
     out
 }
 
+/// The records by name with averages of zero and one above 30 °C first, then as many as are left
+/// of `make records`.
+pub fn make_averages_records(seed: u64, count: usize) -> Vec<u8> {
+    let mut out = Vec::new();
+    let named = ZERO_RECORDS.iter().chain(&["hot"]);
+    let first: Vec<Vec<u8>> = named.filter_map(|name| sample(name)).collect();
+    let some = first.iter().take(count);
+    some.for_each(|record| put_item(&mut out, record));
+    out.extend(make_records(seed, count.saturating_sub(first.len())));
+    out
+}
+
 fn some_exact_case(dice: &mut Dice) -> Case {
     loop {
         let mut case = some_inside(dice);
-        match dice.percent(25) {
+        match dice.percent(60) {
             true => some_zeros(&mut case, dice),
             false => spoil(&mut case, dice),
         }

@@ -337,6 +337,22 @@ fn cut_record() -> Vec<u8> {
     bytes
 }
 
+/// The listing with one gas at zero, or with all three.
+pub const ZERO_RECORDS: [&str; 4] = ["zero_hc", "zero_co", "zero_no", "zeros"];
+
+fn zero_listing(name: &str) -> Content {
+    let columns = match name {
+        "zero_hc" => 2..3,
+        "zero_co" => 3..4,
+        "zero_no" => 4..5,
+        _ => 2..5,
+    };
+    let mut content = listing(36);
+    let rows = content.cells.chunks_mut(6);
+    rows.for_each(|row| row[columns.clone()].fill(0));
+    content
+}
+
 /// The named records that no script writes, or not to their end.
 fn listed_sample(name: &str) -> Option<Vec<u8>> {
     Some(match name {
@@ -348,6 +364,7 @@ fn listed_sample(name: &str) -> Option<Vec<u8>> {
             (content.settings[4], content.settings[5]) = (100, 31);
             content.bytes()
         }
+        _ if ZERO_RECORDS.contains(&name) => zero_listing(name).bytes(),
         // The listing with a channel of code 263 before that of code 7; its number is unfit for code 7.
         "wide" => with_channel(&listing(36), 5, 263, |_| (-1.0f32).to_bits()).bytes(),
         "cut" => cut_record(),

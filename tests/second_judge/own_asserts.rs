@@ -1,7 +1,16 @@
 //! The judge's own asserts: document 01's worked cases and its plausible and wrong ones.
 
 use crate::asserts_accounted::{check_accounted, check_invalid_gathered};
+use crate::asserts_averages::{
+    check_ends_of_k, check_exact_by_hand, check_held, check_one_by_one, check_premise,
+    check_record_windows,
+};
+use crate::asserts_averages_made::{
+    check_averages_lines, check_averages_made, check_averages_vectors, check_lines_beside,
+    check_lines_checked, check_lines_fit, check_pairs, check_whole_averages,
+};
 use crate::asserts_bench::{after_tries, check_bench, check_locks, check_tries, last_answer, GOOD};
+use crate::asserts_big::{check_big_ends, check_big_laws, check_big_small};
 use crate::asserts_channels::{
     check_behind_wide, check_both_forms, check_channel_cases, check_wide_bytes, check_wide_reading,
     check_wide_writer, check_widened,
@@ -11,6 +20,10 @@ use crate::asserts_coast_down::{
 };
 use crate::asserts_dips::check_dips;
 use crate::asserts_engine::{check_engines, check_gathered, check_means};
+use crate::asserts_floats::{
+    check_bound, check_bound_laws, check_cut, check_float_fits, check_nearest, check_nearest_laws,
+    check_taken_apart,
+};
 use crate::asserts_hundredths::{
     check_apart, check_co2, check_corrections_made, check_dcf, check_hundredths,
     check_hundredths_names, check_older,
@@ -43,6 +56,7 @@ use crate::asserts_windows::{
     check_emptied, check_invalid, check_invalid_printed, check_kept_invalid, check_window_names,
 };
 use crate::bench::Event;
+use crate::make_averages::make_averages;
 use crate::make_cuts::make_cuts;
 use crate::make_events::{least, make_events};
 use crate::make_journals::make_journals;
@@ -51,6 +65,7 @@ use crate::make_tests::make_tests;
 use crate::named_records::listing;
 use crate::numbers::unit_count;
 use crate::reach::Reach;
+use crate::reach_averages::reach_averages;
 use crate::reach_cuts::reach_cuts;
 use crate::reach_events::reach_events;
 use crate::reach_journals::reach_journals;
@@ -198,7 +213,7 @@ fn wrong_after_void(standing: Standing, void: u8) -> Next {
 
 /// The least sizes reach everything, whatever the seed.
 fn check_least(checks: &mut Checks) {
-    let [(_, records), (_, tests), (_, events), (_, journals), (_, cuts), _] = least();
+    let [(_, records), (_, tests), (_, events), (_, journals), (_, cuts), (_, windows)] = least();
     for seed in 1..=10 {
         let missing = |reach: Reach| reach.missing().join("; ");
         let made = make_records(seed, records);
@@ -211,11 +226,13 @@ fn check_least(checks: &mut Checks) {
         checks.same("journals", missing(reach_journals(&made)), String::new());
         let made = make_cuts(seed, cuts);
         checks.same("cuts", missing(reach_cuts(&made)), String::new());
+        let made = make_averages(seed, windows);
+        checks.same("averages", missing(reach_averages(&made)), String::new());
     }
 }
 
 /// All the asserts, in their order.
-const CHECKS: [fn(&mut Checks); 84] = [
+const CHECKS: [fn(&mut Checks); 108] = [
     check_readings,
     check_rounding,
     check_corrections,
@@ -262,6 +279,30 @@ const CHECKS: [fn(&mut Checks); 84] = [
     check_every_length,
     check_salvage_laws,
     check_cuts_made,
+    check_big_small,
+    check_big_laws,
+    check_big_ends,
+    check_taken_apart,
+    check_nearest,
+    check_nearest_laws,
+    check_bound,
+    check_bound_laws,
+    check_float_fits,
+    check_cut,
+    check_exact_by_hand,
+    check_held,
+    check_ends_of_k,
+    check_premise,
+    check_one_by_one,
+    check_record_windows,
+    check_averages_vectors,
+    check_lines_checked,
+    check_lines_beside,
+    check_averages_lines,
+    check_lines_fit,
+    check_whole_averages,
+    check_averages_made,
+    check_pairs,
     check_tries,
     check_locks,
     check_bench,

@@ -68,9 +68,12 @@ mod scripted_tests;
 mod scripted_windows;
 
 // What an input reaches.
+mod averages_seen;
 mod cut_seen;
 mod journal_walk;
 mod reach;
+mod reach_averages;
+mod reach_averages_records;
 mod reach_channels;
 mod reach_cuts;
 mod reach_dips;
@@ -88,11 +91,15 @@ mod reach_windows;
 
 // Own asserts.
 mod asserts_accounted;
+mod asserts_averages;
+mod asserts_averages_made;
 mod asserts_bench;
+mod asserts_big;
 mod asserts_channels;
 mod asserts_coast_down;
 mod asserts_dips;
 mod asserts_engine;
+mod asserts_floats;
 mod asserts_hundredths;
 mod asserts_journals;
 mod asserts_numbers;
@@ -114,7 +121,7 @@ use crate::journal_modes::{
     mode_journal_write,
 };
 use crate::journaling::journal_lines;
-use crate::make_averages::{make_averages, make_exact_averages};
+use crate::make_averages::{make_averages, make_averages_records, make_exact_averages};
 use crate::make_corrections::make_corrections;
 use crate::make_cuts::{make_cuts, make_salvages};
 use crate::make_events::{least, make_events};
@@ -131,6 +138,8 @@ use crate::modes::{
 use crate::named_journals::{named_journal, JOURNALS};
 use crate::named_records::{sample, RECORDS};
 use crate::own_asserts::selftest;
+use crate::reach_averages::reach_averages;
+use crate::reach_averages_records::reach_averages_records;
 use crate::reach_cuts::{reach_cuts, reach_salvages};
 use crate::reach_events::reach_events;
 use crate::reach_journals::reach_journals;
@@ -185,6 +194,7 @@ fn made(kind: &str, seed: &str, count: &str) -> Result<Vec<u8>, String> {
         "journal_vectors" => make_journal_vectors,
         "averages" => make_averages,
         "exact_averages" => make_exact_averages,
+        "averages_records" => make_averages_records,
         _ => return Err(format!("There is no input of the kind {kind} to make.")),
     };
     let (seed, count) = (number("SEED", seed)?, number("COUNT", count)?);
@@ -241,6 +251,18 @@ const LINE_MODES: [&str; 18] = [
     "journal_vectors",
 ];
 
+/// What a program writes for each record of a file, looked at as a mode does.
+fn against_records<O: FnMut(&str)>(words: &[&str; 4], out: &mut O) -> Ended {
+    let [mode, program, file, save] = words;
+    let look: fn(&str, &[u8], &str, &mut O) -> io::Result<bool> = match *mode {
+        "against" => mode_against,
+        "against-salvage" => mode_against_salvage,
+        _ => mode_against_averages,
+    };
+    look(program, &file_bytes(file)?, save, out)
+        .map_err(|error| format!("{program} cannot be run on the records: {error}."))
+}
+
 /// A program's output on each journal of a file, compared with that of a mode.
 fn against_journals(words: &[&str; 4], out: &mut impl FnMut(&str)) -> Ended {
     let [mode, program, file, save] = words;
@@ -258,29 +280,17 @@ fn run(words: &[&str], out: &mut impl FnMut(&str)) -> Ended {
     match words {
         [mode] if LINE_MODES.contains(mode) => line_mode(mode, &stdin_bytes()?, out),
         ["judge-many", file] => mode_judge_many(&file_bytes(file)?, out),
-        ["against", program, file, save] => {
-            let data = file_bytes(file)?;
-            return mode_against(program, &data, save, out)
-                .map_err(|error| format!("{program} cannot be run on the records: {error}."));
+        [mode @ ("against" | "against-salvage" | "against-averages"), program, file, save] => {
+            return against_records(&[mode, program, file, save], out)
         }
         ["salvage"] => {
             let (record, line) = salvage_outputs(&stdin_bytes()?);
             put_bytes(&record)?;
             eprintln!("{line}");
         }
-        ["against-salvage", program, file, save] => {
-            let data = file_bytes(file)?;
-            return mode_against_salvage(program, &data, save, out)
-                .map_err(|error| format!("{program} cannot be run on the records: {error}."));
-        }
         ["check-averages", cases, lines] => {
             let (cases, lines) = (file_bytes(cases)?, file_bytes(lines)?);
             return Ok(mode_check_averages(&cases, &lines, out));
-        }
-        ["against-averages", program, file, save] => {
-            let data = file_bytes(file)?;
-            return mode_against_averages(program, &data, save, out)
-                .map_err(|error| format!("{program} cannot be run on the records: {error}."));
         }
         ["against-journals", mode, program, file, save] => {
             return against_journals(&[mode, program, file, save], out)
@@ -288,6 +298,10 @@ fn run(words: &[&str], out: &mut impl FnMut(&str)) -> Ended {
         ["reach", "judge-many", file] => return Ok(reach_records(&file_bytes(file)?).report(out)),
         ["reach", "cuts", file] => return Ok(reach_cuts(&file_bytes(file)?).report(out)),
         ["reach", "journals", file] => return Ok(reach_journals(&file_bytes(file)?).report(out)),
+        ["reach", "averages-records", file] => {
+            return Ok(reach_averages_records(&file_bytes(file)?).report(out))
+        }
+        ["reach", "averages", file] => return Ok(reach_averages(&file_bytes(file)?).report(out)),
         ["reach", "events"] => return Ok(reach_events(&stdin_bytes()?).report(out)),
         ["reach", "salvages"] => return Ok(reach_salvages(&stdin_bytes()?).report(out)),
         ["reach", "tests"] => return Ok(reach_tests(&stdin_bytes()?).report(out)),

@@ -2,10 +2,10 @@
 
 use crate::numbers::{humidity_factor, refusal, Refusal};
 
-/// The place (1 to 7) of the first setting out of range.
-pub fn unfit_setting(s: &[u16; 7]) -> Option<usize> {
-    let greatest_displacement = if s[0] == 2 { 50 } else { 2000 };
-    let ranges = [
+/// Least and greatest value of each setting, by the kind.
+pub fn setting_ranges(kind: u16) -> [(u16, u16); 7] {
+    let greatest_displacement = if kind == 2 { 50 } else { 2000 };
+    [
         (1, 2),
         (1900, 2100),
         (1, greatest_displacement),
@@ -13,7 +13,12 @@ pub fn unfit_setting(s: &[u16; 7]) -> Option<usize> {
         (0, 100),
         (2, 43),
         (800, 1100),
-    ];
+    ]
+}
+
+/// The place (1 to 7) of the first setting out of range.
+pub fn unfit_setting(s: &[u16; 7]) -> Option<usize> {
+    let ranges = setting_ranges(s[0]);
     let fits = |i: usize| ranges[i].0 <= s[i] && s[i] <= ranges[i].1;
     (0..7).find(|&i| !fits(i)).map(|i| i + 1)
 }
