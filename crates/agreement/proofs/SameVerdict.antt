@@ -43,10 +43,9 @@ use Rattle.rejudging.specs.Rejudging.{settings_of, saturation_of}
 use Rattle.rejudging.specs.Rows.{readings_in, row_start}
 use Rattle.rejudging.specs.Sheets.{word_of, sheet_of}
 use Rattle.rejudging.specs.Taking.{units_given, row_given, item_given, stepped, ran_by}
-use Rattle.rejudging.specs.declared.Sheet.{Sheet}
 use Rattle.rejudging.proofs.WasRead.{vehicle_in}
 use Rattle.refusal.proofs.Answers.{ok_same}
-use Rattle.rejudging.proofs.Tested.{run_of}
+use Rattle.rejudging.proofs.Tested.{run_of, sheet_tested}
 use Rattle.rejudging.proofs.WasRead.{start_fit}
 use Rattle.agreement.specs.Agreement.{event_of, EventsOf, verdicts_in, verdict_shown, Agrees, Agreement}
 use Rattle.agreement.proofs.Causes.{CausesFit, causes_fit}
@@ -86,14 +85,14 @@ shows_verdict w v x e h = rw (e, h)
 module _ (s : List ℕ) (shape : Shape) (automatic : Bool) where
   -- After the last item of an open test.
   agrees_open :
-      (b : Bench) (last : ℕ) (x : Test) (sheet : Sheet) →
+      (b : Bench) (last : ℕ) (x final : Test) →
       Tracks b last automatic x →
       is_running x.progress.stage ≡ true →
-      sheet_of x ≡ sheet →
-      Agrees b [] sheet
+      x ≡ final →
+      Agrees b [] (sheet_of final)
   unfolding bench_answers bench_after verdicts_in verdict_shown sheet_of
-  agrees_open b last x sheet t h e =
-      subst (Agrees b []) e
+  agrees_open b last x final t h e =
+      subst (λ (y : Test). Agrees b [] (sheet_of y)) e
       (record {
         accepted = tt;
         verdicts = rw (open_shown x.progress.stage (running_open _ h));
@@ -103,148 +102,148 @@ module _ (s : List ℕ) (shape : Shape) (automatic : Bool) where
 
   -- After a verdict no item is left.
   agrees_ended :
-      (l : List Item) (es : List Event) (clock : ℕ) (b : Bench) (e : Event) (y : Stepped) (g : Goes y) (v : Verdict) (sheet : Sheet) →
+      (l : List Item) (es : List Event) (clock : ℕ) (b : Bench) (e : Event) (y : Stepped) (g : Goes y) (v : Verdict) (final : Test) →
       g.told.next ≡ Ends v →
       step b e ≡ test_taken y b e →
       EventsOf s shape clock l es →
-      ran_by s shape automatic l y.test ≡ Ok sheet →
-      Agrees b (e ∷ es) sheet
+      ran_by s shape automatic l y.test ≡ Ok final →
+      Agrees b (e ∷ es) (sheet_of final)
   unfolding ran_by has_ended pick bench_answers bench_after verdicts_in sheet_of
-  agrees_ended [] [] clock b e y g v sheet n q ev r =
+  agrees_ended [] [] clock b e y g v final n q ev r =
       let h = q ∙ ends y b e g v n in
       let k = g.verdict v n in
-      subst (Agrees b (e ∷ [])) (ok_same _ _ r)
+      subst (λ (x : Test). Agrees b (e ∷ []) (sheet_of x)) (ok_same _ _ r)
       (record {
         accepted = rw h tt;
         verdicts = rw h (shows_verdict v.word v y.test k.0 k.1);
         running = λ o. absurd (not_open v.word (rw k.0 at o));
         sheet = λ o. absurd (not_open v.word (rw k.0 at o));
       })
-  agrees_ended [] (f ∷ es) clock b e y g v sheet n q ev r = absurd ev
-  agrees_ended (i ∷ l) es clock b e y g v sheet n q ev r =
-      let w : Err _ ≡ Ok sheet = rw (g.verdict v n).0 at r in
+  agrees_ended [] (f ∷ es) clock b e y g v final n q ev r = absurd ev
+  agrees_ended (i ∷ l) es clock b e y g v final n q ev r =
+      let w : Err _ ≡ Ok final = rw (g.verdict v n).0 at r in
       let z : ◌≡◌ {A = ℕ} 0 1 = cc in
       absurd (omega arith)
 
   -- An item that leaves the test open.
   agrees_on :
-      (es : List Event) (clock : ℕ) (b : Bench) (e : Event) (y : Stepped) (g : Goes y) (sheet : Sheet) →
+      (es : List Event) (clock : ℕ) (b : Bench) (e : Event) (y : Stepped) (g : Goes y) (final : Test) →
       ends_in g.told.next ≡ false →
       step b e ≡ test_taken y b e →
       y.test.vehicle.automatic ≡ automatic →
       clock_after e ≡ clock →
-      ((c : Bench) → Tracks c clock automatic y.test → Agrees c es sheet) →
-      Agrees b (e ∷ es) sheet
+      ((c : Bench) → Tracks c clock automatic y.test → Agrees c es (sheet_of final)) →
+      Agrees b (e ∷ es) (sheet_of final)
   unfolding bench_answers bench_after verdicts_in
-  agrees_on es clock b e y g sheet n q a k next =
+  agrees_on es clock b e y g final n q a k next =
       let h : step b e ≡ _ = q ∙ goes_on y b e g n in
-      let c : Agrees (gone_on b.desk e y.test).bench es sheet =
+      let c : Agrees (gone_on b.desk e y.test).bench es (sheet_of final) =
       next _ (record { clock = rw k (le_refl _); gearbox = a; test = refl })
       in
       record {
         accepted = rw h c.accepted;
         verdicts = rw h c.verdicts;
         running = λ o. subst (λ (z : Handled). test_runs (bench_after z.bench es) ≡ true) (sym h) (c.running o);
-        sheet = λ o. subst (λ (z : Handled). sheet_of (bench_after z.bench es).test ≡ sheet) (sym h) (c.sheet o);
+        sheet = λ o. subst (λ (z : Handled). sheet_of (bench_after z.bench es).test ≡ sheet_of final) (sym h) (c.sheet o);
       }
 
   -- What is left after an item agrees with the bench after its event.
-  abbrev Remaining : List Item → List Event → ℕ → Sheet → Type 0
-  Remaining l es clock sheet =
+  abbrev Remaining : List Item → List Event → ℕ → Test → Type 0
+  Remaining l es clock final =
       (x : Test) →
-      ran_by s shape automatic l x ≡ Ok sheet →
+      ran_by s shape automatic l x ≡ Ok final →
       (c : Bench) →
       Tracks c clock automatic x →
       is_running x.progress.stage ≡ true →
-      Agrees c es sheet
+      Agrees c es (sheet_of final)
 
   agrees_step :
-      (l : List Item) (es : List Event) (clock : ℕ) (b : Bench) (e : Event) (y : Stepped) (g : Goes y) (sheet : Sheet) →
+      (l : List Item) (es : List Event) (clock : ℕ) (b : Bench) (e : Event) (y : Stepped) (g : Goes y) (final : Test) →
       step b e ≡ test_taken y b e →
       y.test.vehicle.automatic ≡ automatic →
       clock_after e ≡ clock →
       EventsOf s shape clock l es →
-      ran_by s shape automatic l y.test ≡ Ok sheet →
-      Remaining l es clock sheet →
-      Agrees b (e ∷ es) sheet
+      ran_by s shape automatic l y.test ≡ Ok final →
+      Remaining l es clock final →
+      Agrees b (e ∷ es) (sheet_of final)
   unfolding ends_in
-  agrees_step l es clock b e y g sheet q a k ev r rest = go g.told.next refl
+  agrees_step l es clock b e y g final q a k ev r rest = go g.told.next refl
     where
-      on : ends_in g.told.next ≡ false → Agrees b (e ∷ es) sheet
-      on n = agrees_on es clock b e y g sheet n q a k (λ c t. rest y.test r c t (g.stage ∙ ap not n))
+      on : ends_in g.told.next ≡ false → Agrees b (e ∷ es) (sheet_of final)
+      on n = agrees_on es clock b e y g final n q a k (λ c t. rest y.test r c t (g.stage ∙ ap not n))
 
-      go : (n : Next) → g.told.next ≡ n → Agrees b (e ∷ es) sheet
+      go : (n : Next) → g.told.next ≡ n → Agrees b (e ∷ es) (sheet_of final)
       go GoesOn n = on (rw n refl)
       go Rests n = on (rw n refl)
       go RestEnded n = on (rw n refl)
       go ModeTwo n = on (rw n refl)
-      go (Ends v) n = agrees_ended l es clock b e y g v sheet n q ev r
+      go (Ends v) n = agrees_ended l es clock b e y g v final n q ev r
 
   -- A row: its units were fit, or rejudging would have refused it.
   agrees_row :
-      (row : ℕ) (l : List Item) (es : List Event) (last clock : ℕ) (b : Bench) (x : Test) (sheet : Sheet) (u : Result Second Refusal) →
+      (row : ℕ) (l : List Item) (es : List Event) (last clock : ℕ) (b : Bench) (x final : Test) (u : Result Second Refusal) →
       second_of (readings_in s shape (row_start shape row)) automatic ≡ u →
       last ≤ clock →
       Tracks b last automatic x →
       is_running x.progress.stage ≡ true →
       EventsOf s shape clock l es →
-      ran_by s shape automatic (item.Row row ∷ l) x ≡ Ok sheet →
-      Remaining l es clock sheet →
-      Agrees b (event_of s shape clock (item.Row row) ∷ es) sheet
+      ran_by s shape automatic (item.Row row ∷ l) x ≡ Ok final →
+      Remaining l es clock final →
+      Agrees b (event_of s shape clock (item.Row row) ∷ es) (sheet_of final)
   unfolding ran_by item_given row_given units_given stepped keep second_taken pick
-  agrees_row row l es last clock b x sheet (Ok u) f k t h ev r rest =
+  agrees_row row l es last clock b x final (Ok u) f k t h ev r rest =
       let q = second_taken_lem b clock (runs_too b x t.test h) (omega (arith, t.clock)) (readings_in s shape (row_start shape row)) in
       let w : step b (event_of s shape clock (item.Row row)) ≡ test_taken (second x u) b (event_of s shape clock (item.Row row)) =
       q ∙ simp (t.test, t.gearbox, f)
       in
-      agrees_step l es clock b (event_of s shape clock (item.Row row)) (second x u) (second_goes x u h) sheet w
+      agrees_step l es clock b (event_of s shape clock (item.Row row)) (second x u) (second_goes x u h) final w
       (ap (λ v. v.automatic) (second_same x u) ∙ t.gearbox) refl ev
       (rw (running_open _ h, f) at r)
       rest
-  agrees_row row l es last clock b x sheet (Err r₀) f k t h ev r rest =
-      let w : Err _ ≡ Ok sheet = rw (running_open _ h, f) at r in
+  agrees_row row l es last clock b x final (Err r₀) f k t h ev r rest =
+      let w : Err _ ≡ Ok final = rw (running_open _ h, f) at r in
       let z : ◌≡◌ {A = ℕ} 0 1 = cc in
       absurd (omega arith)
 
   -- A stop, of a fit cause.
   agrees_stop :
-      (i : ℕ) (l : List Item) (es : List Event) (last clock : ℕ) (b : Bench) (x : Test) (sheet : Sheet) →
+      (i : ℕ) (l : List Item) (es : List Event) (last clock : ℕ) (b : Bench) (x final : Test) →
       last ≤ clock →
       Tracks b last automatic x →
       is_running x.progress.stage ≡ true →
       CausesFit s shape (item.Stop i ∷ l) →
       EventsOf s shape clock l es →
-      ran_by s shape automatic (item.Stop i ∷ l) x ≡ Ok sheet →
-      Remaining l es clock sheet →
-      Agrees b (event_of s shape clock (item.Stop i) ∷ es) sheet
+      ran_by s shape automatic (item.Stop i ∷ l) x ≡ Ok final →
+      Remaining l es clock final →
+      Agrees b (event_of s shape clock (item.Stop i) ∷ es) (sheet_of final)
   unfolding ran_by item_given stepped keep pick
-  agrees_stop i l es last clock b x sheet k t h c ev r rest =
+  agrees_stop i l es last clock b x final k t h c ev r rest =
       let w : step b (event_of s shape clock (item.Stop i)) ≡ test_taken (stop x (stop_cause_in s shape i)) b (event_of s shape clock (item.Stop i)) =
       stop_taken_lem b clock (runs_too b x t.test h) (omega (arith, t.clock)) (stop_cause_in s shape i) ∙ simp t.test
       in
-      agrees_step l es clock b (event_of s shape clock (item.Stop i)) (stop x (stop_cause_in s shape i)) (stop_goes x _ c.0 h) sheet w
+      agrees_step l es clock b (event_of s shape clock (item.Stop i)) (stop x (stop_cause_in s shape i)) (stop_goes x _ c.0 h) final w
       (ap (λ v. v.automatic) (stop_same x (stop_cause_in s shape i)) ∙ t.gearbox) refl ev (rw (running_open _ h) at r) rest
 
   follows :
-      (l : List Item) (es : List Event) (last : ℕ) (b : Bench) (x : Test) (sheet : Sheet) →
+      (l : List Item) (es : List Event) (last : ℕ) (b : Bench) (x final : Test) →
       EventsOf s shape last l es →
       CausesFit s shape l →
       Tracks b last automatic x →
       is_running x.progress.stage ≡ true →
-      ran_by s shape automatic l x ≡ Ok sheet →
-      Agrees b es sheet
+      ran_by s shape automatic l x ≡ Ok final →
+      Agrees b es (sheet_of final)
   unfolding ran_by
-  follows [] [] last b x sheet ev c t h r = agrees_open b last x sheet t h (ok_same _ _ r)
-  follows [] (e ∷ es) last b x sheet ev c t h r = absurd ev
-  follows (i ∷ l) [] last b x sheet ev c t h r = absurd ev
-  follows (item.Row row ∷ l) (e ∷ es) last b x sheet ev c t h r =
+  follows [] [] last b x final ev c t h r = agrees_open b last x final t h (ok_same _ _ r)
+  follows [] (e ∷ es) last b x final ev c t h r = absurd ev
+  follows (i ∷ l) [] last b x final ev c t h r = absurd ev
+  follows (item.Row row ∷ l) (e ∷ es) last b x final ev c t h r =
       rw ev.2
-      (agrees_row row l es last ev.0 b x sheet _ refl ev.1 t h ev.3 r
-      (λ y q d u n. follows l es ev.0 d y sheet ev.3 c u n q))
-  follows (item.Stop i ∷ l) (e ∷ es) last b x sheet ev c t h r =
+      (agrees_row row l es last ev.0 b x final _ refl ev.1 t h ev.3 r
+      (λ y q d u n. follows l es ev.0 d y final ev.3 c u n q))
+  follows (item.Stop i ∷ l) (e ∷ es) last b x final ev c t h r =
       rw ev.2
-      (agrees_stop i l es last ev.0 b x sheet ev.1 t h c ev.3 r
-      (λ y q d u n. follows l es ev.0 d y sheet ev.3 c.1 u n q))
+      (agrees_stop i l es last ev.0 b x final ev.1 t h c ev.3 r
+      (λ y q d u n. follows l es ev.0 d y final ev.3 c.1 u n q))
 
 -- A vehicle's gearbox is that of its settings.
 gearbox_of : (settings : Settings) (p : ℕ) (v : Vehicle) → checked_of settings p ≡ Ok v → v.automatic ≡ automatic settings
@@ -258,8 +257,9 @@ same_verdict s shape x below e r b clock es a ev =
     let p = saturation_of s shape in
     let v = vehicle_in s shape in
     let fit = start_fit s shape e in
-    rw (admitted b clock settings p (began v) (rw fit refl) a)
-    (follows s shape (automatic settings) (items_of s shape) es clock _ (began v) x ev (causes_fit s shape below e)
+    let t = sheet_tested s x r in
+    rw (admitted b clock settings p (began v) (rw fit refl) a, t.2)
+    (follows s shape (automatic settings) (items_of s shape) es clock _ (began v) t.0 ev (causes_fit s shape below e)
     (record { clock = le_refl clock; gearbox = gearbox_of settings p v fit; test = refl })
     refl
-    (run_of s shape x e r))
+    (run_of s shape t.0 e t.1))

@@ -1,5 +1,5 @@
 // The dilution sum, the dilution correction DCF and the humidity correction k_H of document 01's "Corrections", in whole
-// numbers. Exports: dilution_sum, dcf, humidity_factor, the range of a saturation pressure, and half_up, the rounding
+// numbers. Exports: dilution_sum, dilution_divisor, dcf, humidity_factor with E, its divisor and the three ranges, and half_up, the rounding
 // of every quotient that is rounded to the unit. A factor is cast to its narrower type where it is proved to fit.
 
 #![tactic(auto)]
@@ -11,6 +11,8 @@ ghost use Rattle.correction.specs.Humidity.{
   humidity_fit,
   pressure_fit,
   saturation_fit,
+  dry_pressure,
+  humidity_divisor,
   humidity_factor,
 };
 ghost use Rattle.correction.specs.Claims.{DilutionClaims, HumidityClaims};
@@ -44,7 +46,8 @@ pub fn dilution_sum(co2: Hundredths, co: Hundredths) -> u32
 }
 
 // D = 6,524a + 4,644b.
-fn dilution_divisor(co2: Hundredths, co: Hundredths) -> u64
+// Ruled out: CO taken for CO2, and 65,240a, as it was for tenths.
+pub fn dilution_divisor(co2: Hundredths, co: Hundredths) -> u64
     ensures { result ≡ dilution_divisor co2 co }
 {
     6_524 * (co2.0 as u64) + 4_644 * (co.0 as u64)
@@ -63,14 +66,16 @@ pub fn dcf(co2: Hundredths, co: Hundredths) -> u32
 }
 
 // Humidity in %: 0 to 100.
-fn humidity_fit(humidity: u16) -> bool
+// Ruled out: 101 taken, and 0 refused.
+pub fn humidity_fit(humidity: u16) -> bool
     ensures { result ≡ humidity_fit humidity }
 {
     humidity <= 100
 }
 
 // Pressure in 0.1 kPa: 800 to 1100.
-fn pressure_fit(pressure: u16) -> bool
+// Ruled out: 799 taken, and 1100 refused.
+pub fn pressure_fit(pressure: u16) -> bool
     ensures { result ≡ pressure_fit pressure }
 {
     (800..=1_100).contains(&pressure)
@@ -84,6 +89,25 @@ pub fn saturation_fit(saturation: u16) -> bool
     (500..=4_300).contains(&saturation)
 }
 
+// E = 10,000B − rp, 0 where rp is greater.
+// Ruled out: a difference that wraps, and pressure and saturation pressure exchanged.
+pub fn dry_pressure(humidity: u16, pressure: u16, saturation: u16) -> u64
+    ensures { result ≡ dry_pressure humidity pressure saturation }
+{
+    let vapour = (humidity as u64) * (saturation as u64);
+    (10_000 * (pressure as u64)).saturating_sub(vapour)
+}
+
+// 1,352,359E − 20,434,190rp, 0 where it would be less.
+// Ruled out: a difference that wraps, and E taken for rp.
+pub fn humidity_divisor(humidity: u16, pressure: u16, saturation: u16) -> u64
+    ensures { result ≡ humidity_divisor humidity pressure saturation }
+{
+    let vapour = (humidity as u64) * (saturation as u64);
+    let dry = dry_pressure(humidity, pressure, saturation);
+    (1_352_359 * dry).saturating_sub(20_434_190 * vapour)
+}
+
 // k_H in millionths from humidity r, pressure B and saturation pressure p, each tested here. With it come the claims that it is annex
 // AB2's fraction, that its divisor is above zero and how large it is at most.
 // Ruled out: k worked out from a humidity of 101, and 10^12·E wrapping at B = 1100.
@@ -93,11 +117,7 @@ pub fn humidity_factor(humidity: u16, pressure: u16, saturation: u16) -> Option<
     if !(humidity_fit(humidity) & (pressure_fit(pressure) & saturation_fit(saturation))) {
         return None;
     }
-    let vapour = (humidity as u64) * (saturation as u64);
-    let dry = 10_000 * (pressure as u64) - vapour;
-    let k = half_up(
-        1_000_000_000_000 * dry,
-        1_352_359 * dry - 20_434_190 * vapour,
-    );
-    Some(k as u32)
+    let dry = dry_pressure(humidity, pressure, saturation);
+    let divisor = humidity_divisor(humidity, pressure, saturation);
+    Some(half_up(1_000_000_000_000 * dry, divisor) as u32)
 }

@@ -50,7 +50,7 @@ use Rattle.loaded_test.specs.Measuring.{closed, concluded, window_taken, window_
 use Rattle.loaded_test.specs.Steps.{counted, measured, in_attempt, second_at, second, stop_taken, stop}
 use Rattle.loaded_test.specs.Windows.{out_of, window_of, valid_here, last_valid}
 use Rattle.loaded_test.specs.Log.{Entry, Input, a_second, a_stop, step, replay, logged, log_of}
-use Rattle.loaded_test.specs.Claim.{mode_after, mode_in, Clean}
+use Rattle.loaded_test.specs.Claim.{mode_after, mode_in, Clean, AllClean, no_second, and_clean}
 use Rattle.loaded_test.specs.Sheet.{t_going, t_after, with_input, oldest, run_in, last_valid_in, WindowTold, SheetTold, AllPresentIn}
 use Rattle.attempt.proofs.Runs.{restarted_none}
 use Rattle.loaded_test.proofs.Runs.{oldest_none, oldest_before, oldest_more}
@@ -59,18 +59,19 @@ use Rattle.loaded_test.proofs.Tally.{valid_ten, taken_here, valid_window}
 use Rattle.loaded_test.proofs.Taking.{Takes, short, judged_counts}
 use Rattle.loaded_test.proofs.Passing.{takes, stands}
 
--- t counts the run, and the window that is kept is the run's last valid one.
+-- t counts the run, the window that is kept is the run's last valid one, and each second of the run is clean.
 record Holds (v : Vehicle) (mode : Mode) (run : List Second) (k : MeasuringCounts) (window : List window.Measured) : Type 0 where
   seconds : k.seconds ≡ length run
   kept : k.kept ≡ some_valid v mode run
   held : some_valid v mode run ≡ true → window ≡ map (measured_of v mode) (last_valid v mode run)
+  clean : AllClean run
 
 abbrev Shows : Vehicle → List Entry → Progress → List window.Measured → Type 0
 Shows v log p window = Holds v (mode_in log) (run_in log) p.measuring window
 
 none_held : (v : Vehicle) (mode : Mode) (window : List window.Measured) → Holds v mode [] no_measuring window
 unfolding some_valid
-none_held v mode window = record { seconds = refl; kept = refl; held = λ e. absurd (true≢false (sym e)) }
+none_held v mode window = record { seconds = refl; kept = refl; held = λ e. absurd (true≢false (sym e)); clean = no_second }
 
 module _ (v : Vehicle) (i : Input) (log : List Entry) (window : List window.Measured) where
   -- A turn, told as the newest entry.
@@ -248,6 +249,7 @@ module _
                   (valid_window x.vehicle (mode_in log) s h.running.run x.last h.running.old h.running.held
                   (short x.vehicle log s p x.last h))
                   before;
+              clean = and_clean h.unspoilt h.running.clean;
             }
 
         judged_shows :
@@ -357,6 +359,18 @@ none_none v mode (s ∷ l) e =
     (λ f. absurd (true≢false (sym (ap (λ (b : Bool). b || some_valid v mode l) f) ∙ e)))
     (λ f. none_none v mode l (sym (ap (λ (b : Bool). b || some_valid v mode l) f) ∙ e))
 
+-- Seconds taken from clean ones are clean, and so are those of a run's last valid window.
+clean_take : (n : ℕ) (l : List Second) → AllClean l → AllClean (take n l)
+clean_take zero l h = no_second
+clean_take (suc n) [] h = h
+clean_take (suc n) (s ∷ l) (and_clean c h) = and_clean c (clean_take n l h)
+
+clean_last : (v : Vehicle) (mode : Mode) (l : List Second) → AllClean l → AllClean (last_valid v mode l)
+unfolding last_valid
+clean_last v mode [] h = h
+clean_last v mode (s ∷ l) (and_clean c h) =
+    on_pick AllClean _ _ _ (λ _. clean_take 10 (s ∷ l) (and_clean c h)) (λ _. clean_last v mode l h)
+
 -- Without a window none is shown, and no engine speed, whatever the test's state.
 none_shown : (x : Test) → x.progress.measuring.kept ≡ false → last_window x ≡ None
 unfolding last_window pick
@@ -384,6 +398,7 @@ module _ (v : Vehicle) (log : List Entry) (x : Test) (h : Shows v log x.progress
         engine =
             subst⁻¹ (λ (m : Option (List window.Measured)). EngineTold (last_valid_in v log) (option_and_then engine_speed_of m)) w
             (engine_exactly v (mode_in log) (last_valid_in v log));
+        clean = clean_last v (mode_in log) (run_in log) h.clean;
       }
 
   sheet_of_lem : SheetTold v log x

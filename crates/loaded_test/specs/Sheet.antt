@@ -13,7 +13,7 @@ use Rattle.loaded_test.specs.declared.Test.{Test}
 use Rattle.loaded_test.specs.State.{last_window, engine_shown}
 use Rattle.loaded_test.specs.Windows.{last_valid}
 use Rattle.loaded_test.specs.Log.{Entry, Input, a_second, a_stop}
-use Rattle.loaded_test.specs.Claim.{mode_in}
+use Rattle.loaded_test.specs.Claim.{mode_in, AllClean}
 
 -- t after an entry with which the attempt goes on, from t before it: 0 where measuring begins or begins anew.
 unfoldable pub t_going : Did → ℕ → ℕ
@@ -56,6 +56,8 @@ pub record WindowTold (v : Vehicle) (log : List Entry) (x : Test) : Type 0 where
   pub window : last_window x ≡ Some (map (measured_of v (mode_in log)) (last_valid_in v log))
   -- "their mean, rounded half up .. With any of the ten missing the field is "-"."
   pub engine : EngineTold (last_valid_in v log) (engine_shown x)
+  -- none of the ten is over range in codes 4 to 7 or diluted (document 02, A.11: every valid window meets the premise)
+  pub clean : AllClean (last_valid_in v log)
 
 -- What is shown of a test after a log; t counts the seconds of its run.
 pub record SheetTold (v : Vehicle) (log : List Entry) (x : Test) : Type 0 where

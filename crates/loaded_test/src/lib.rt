@@ -19,7 +19,7 @@ mod voids;
 use attempt::{MeasuringCounts, SettlingCounts};
 pub use printed::{
     averages_of, engine_speed_of, failing_of, has_ended, invalid_of, is_automatic, is_running,
-    mode_of, passing_of, progress_of, seconds_of, stage_of,
+    last_window, mode_of, passing_of, progress_of, seconds_of, stage_of, vehicle_of,
 };
 use reading::Second;
 use refusal::Refusal;

@@ -5,7 +5,7 @@ ghost use Rattle.loaded_test.specs.Going.{is_running, has_ended};
 ghost use Rattle.loaded_test.specs.State.{last_window, averages_shown, engine_shown};
 
 use crate::{Progress, Stage, Test};
-use vehicle::Mode;
+use vehicle::{Mode, Vehicle};
 use window::{Averages, Measured};
 
 // Mode, stage and all counts of document 01's state.
@@ -38,6 +38,14 @@ pub fn is_automatic(x: Test) -> bool
     ensures { result ≡ x.vehicle.automatic }
 {
     vehicle::automatic(x.vehicle)
+}
+
+// The test's vehicle.
+// Ruled out: the blank one, and one with another k.
+pub fn vehicle_of(x: Test) -> Vehicle
+    ensures { result ≡ x.vehicle }
+{
+    x.vehicle
 }
 
 // Whether the test has its verdict.
@@ -89,8 +97,9 @@ pub fn invalid_of(x: Test) -> u8
 }
 
 // The last valid window, if there is one, whatever windows an earlier attempt had.
+// Ruled out: the last ten seconds, and the window of an earlier attempt.
 #[tactic(auto, unfolding(crate::specs::State::last_window, refusal::specs::Choice::pick))]
-fn last_window(x: Test) -> Option<[Measured; 10]>
+pub fn last_window(x: Test) -> Option<[Measured; 10]>
     ensures { result ≡ last_window x }
 {
     x.progress.measuring.kept.then_some(x.window)

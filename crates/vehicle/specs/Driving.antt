@@ -3,10 +3,15 @@
 use Rattle.std.specs.Prelude.{ℕ, ◌+◌, ◌-◌, ◌*◌, max, Bool, false, ◌&&◌, ◌||◌, leb, Option, Some, None}
 use Rattle.reading.specs.declared.Second.{Second}
 use Rattle.vehicle.specs.declared.Aim.{Aim}
+use Rattle.vehicle.specs.declared.Conditions.{Conditions}
 use Rattle.vehicle.specs.Limits.{Limits}
 use Rattle.vehicle.specs.declared.Vehicle.{Vehicle}
 use Rattle.vehicle.specs.declared.Mode.{Mode}
 use Rattle.vehicle.specs.declared.Mode.TheVariants.{One, Two}
+
+-- What k_H was worked out from: r, B and p.
+abbrev pub conditions_of : Vehicle → Conditions
+conditions_of v = record { humidity = v.humidity; pressure = v.pressure; saturation = v.saturation }
 
 -- The vehicle's limits.
 abbrev pub limits_of : Vehicle → Limits

@@ -12,6 +12,7 @@ ghost use Rattle.vehicle.specs.Loads.{load_for, target_for, aim_for};
 ghost use Rattle.vehicle.specs.Checked.{checked_of};
 ghost use Rattle.vehicle.specs.Driving.{
   blank_vehicle,
+  conditions_of,
   limits_of,
   aim_of,
   set_load,
@@ -60,6 +61,14 @@ pub type Limits = Gases<u16>;
 pub struct Aim {
     pub speed: u16,
     pub load: u16,
+}
+
+// What k_H is worked out from: document 01's r in %, B in 0.1 kPa and p in Pa.
+#[derive(Clone, Copy, Debug, PartialEq, Eq)]
+pub struct Conditions {
+    pub humidity: u16,
+    pub pressure: u16,
+    pub saturation: u16,
 }
 
 // Checked settings, as the test needs them.
@@ -234,6 +243,18 @@ pub fn humidity_correction(v: Vehicle) -> u32
     ensures { result ≡ v.k }
 {
     v.k
+}
+
+// What k_H was worked out from.
+// Ruled out: pressure and saturation pressure exchanged, and the temperature for the humidity.
+pub fn conditions_of(v: Vehicle) -> Conditions
+    ensures { result ≡ conditions_of v }
+{
+    Conditions {
+        humidity: v.humidity,
+        pressure: v.pressure,
+        saturation: v.saturation,
+    }
 }
 
 // The limits CO, HC, NO.

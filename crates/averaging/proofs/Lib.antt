@@ -1,0 +1,14 @@
+pub mod Literals
+pub mod Mapped
+pub mod Held
+pub mod Conditions
+pub mod Summing
+pub mod Averaged
+pub mod Answering
+pub mod Whole
+pub mod Claimed
+pub mod LastWindow
+pub mod Digits
+pub mod Placed
+pub mod Reading
+pub mod Printed

@@ -1,0 +1,5 @@
+pub mod Closeness
+pub mod Round
+pub mod Ops
+pub mod Carried
+pub mod Bound

@@ -1,0 +1,2 @@
+pub mod Ratio
+pub mod Near
