@@ -197,17 +197,23 @@ function look_value(v, to,    list) {
     } else told("a value " head(v) ", which this check does not know")
 }
 
-# A generic function stands at the head of its types. The calls of the library that are known hand on what they are given. A method of a
-# bound is one of trait Readable, whose implementations are among the roots.
-function look_call(s,    list, called) {
+# reach FUNCTION: it is on the path.
+function reach(name) {
+    if (name in reached) return
+    reached[name] = 1
+    path[++reaching] = name
+}
+
+# A generic function stands at the head of its types. The calls of the library that are known hand on what they are given: a closure among it is
+# on the path with the function that it stands in. A method of a bound is one of trait Readable, the only trait: each of its implementations.
+function look_call(s,    list, called, other) {
     called = head(kid[s, 2])
-    if (called ~ hands_on || called == "method") {
+    if (called ~ hands_on) {
+    } else if (called == "method") {
+        for (other in item) if (other ~ /Readable::[a-z_]+$/) reach(other)
     } else if (called !~ /::/) told("a call " head(kid[s, 2]) ", which this check does not know")
     else if (!(called in item)) told("a call of " called ", whose code was not written out")
-    else if (!(called in reached)) {
-        reached[called] = 1
-        path[++reaching] = called
-    }
+    else reach(called)
     for (list = kid[s, 3]; is_list(list); list = kid[list, 3]) is_wide(kid[list, 2])
 }
 
@@ -274,9 +280,8 @@ END {
     modules()
     if (!functions) exit
     refusal = "refusal::Refusal"
-    n = split(roots, path, " ")
-    for (i = 1; i <= n; i++) reached[path[i]] = 1
-    reaching = n
+    n = split(roots, root, " ")
+    for (i = 1; i <= n; i++) reach(root[i])
     for (i = 1; i <= reaching; i++) {
         name = path[i]
         print "path " name
@@ -290,5 +295,9 @@ END {
         if (head(it) != "record") { told("a function " head(it) ", which this check does not know"); continue }
         each_local(field[it, "locals"])
         look(field[it, "body"])
+        # Its closures: the functions of the modules below fn and its own name.
+        inner = name
+        sub(/::/, "::fn::", inner)
+        for (other in item) if (index(other, inner "::") == 1) reach(other)
     }
 }

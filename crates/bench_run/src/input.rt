@@ -26,15 +26,8 @@ pub(crate) fn next(input: &mut impl Read) -> io::Result<Option<Event>> {
         6 => Event::AuthorityLock { clock },
         7 => Event::AuthorityUnlock { clock },
         8 => Event::Upload { clock },
-        9 => Event::Start {
-            clock,
-            settings: inputs::settings(input)?,
-            saturation: short(input)?,
-        },
-        10 => Event::Second {
-            clock,
-            readings: inputs::readings(input)?,
-        },
+        9 => start(input, clock)?,
+        10 => second(input, clock)?,
         11 => Event::Stop {
             clock,
             cause: byte(input)?,
@@ -50,6 +43,28 @@ pub(crate) fn next(input: &mut impl Read) -> io::Result<Option<Event>> {
         _ => return Ok(None),
     };
     Ok(Some(event))
+}
+
+// The seven settings, then p: 16 bytes, taken at once.
+fn start(input: &mut impl Read, clock: u32) -> io::Result<Event> {
+    let mut bytes = [0; 16];
+    inputs::bytes(input, &mut bytes)?;
+    let mut left = bytes.as_slice();
+    Ok(Event::Start {
+        clock,
+        settings: inputs::settings(&mut left)?,
+        saturation: short(&mut left)?,
+    })
+}
+
+// The readings of codes 1 to 8: 32 bytes, taken at once.
+fn second(input: &mut impl Read, clock: u32) -> io::Result<Event> {
+    let mut bytes = [0; 32];
+    inputs::bytes(input, &mut bytes)?;
+    Ok(Event::Second {
+        clock,
+        readings: inputs::readings(&mut bytes.as_slice())?,
+    })
 }
 
 // 1 passed.

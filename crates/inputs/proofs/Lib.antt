@@ -1,2 +1,3 @@
 pub mod Taken
 pub mod Filled
+pub mod Buffer

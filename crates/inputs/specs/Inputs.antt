@@ -1,5 +1,5 @@
 -- What the programs that run vectors take from the bytes of their input; a byte past the input's end is 0.
-use Rattle.std.specs.Prelude.{ℕ, ◌+◌, ◌*◌, ◌≤◌, List, get_or, take, drop, Option, Some, IfSome, Result, IfOk, ◌≡◌}
+use Rattle.std.specs.Prelude.{ℕ, zero, suc, ◌+◌, ◌*◌, ◌≤◌, List, [], ◌∷◌, get_or, take, drop, Option, Some, IfSome, Result, IfOk, ◌≡◌}
 use Rattle.vehicle.specs.declared.Settings.{Settings}
 use Rattle.reading.specs.declared.Reading.{Reading}
 use Rattle.reading.specs.Kind.{reading_of, Readings}
@@ -7,6 +7,11 @@ use Rattle.reading.specs.Kind.{reading_of, Readings}
 -- The first byte: 0 where there is none.
 abbrev pub byte_of : List ℕ → ℕ
 byte_of xs = get_or xs 0 0
+
+-- The first n bytes.
+unfoldable pub bytes_of : ℕ → List ℕ → List ℕ
+bytes_of zero xs = []
+bytes_of (suc n) xs = byte_of xs ∷ bytes_of n (drop 1 xs)
 
 -- A number of two bytes, the low one first.
 unfoldable pub short_of : List ℕ → ℕ
@@ -50,6 +55,10 @@ readings_of xs =
 -- Where the input's bytes are known, an answer is `of` them, and the input has lost its first n bytes, or all where there are fewer.
 abbrev pub Takes : {A E : Type 0} → ℕ → (List ℕ → A) → Option (List ℕ) → Result A E → Option (List ℕ) → Type 0
 Takes n of old result new = IfOk result (λ v. IfSome old (λ xs. (v ≡ of xs) × (new ≡ Some (drop n xs))))
+
+-- A buffer of n bytes is filled: where the input's bytes are known, it holds the next n, and the input has lost them.
+abbrev pub TakesInto : {A E : Type 0} → ℕ → Option (List ℕ) → Result A E → List ℕ → Option (List ℕ) → Type 0
+TakesInto n old result into new = IfOk result (λ _. IfSome old (λ xs. (into ≡ bytes_of n xs) × (new ≡ Some (drop n xs))))
 
 -- A buffer of so much room is filled from its front: where the input's bytes are known, with all of them, or with as many as there is room for,
 -- and the others are left.

@@ -376,9 +376,12 @@ none_shown : (x : Test) → x.progress.measuring.kept ≡ false → last_window 
 unfolding last_window pick
 none_shown x e = rw e
 
-absent_shown : (x : Test) → last_window x ≡ None → engine_shown x ≡ None
+unshown : (x : Test) → last_window x ≡ None → engine_shown x ≡ None
 unfolding engine_shown
-absent_shown x e = rw e
+unshown x e = rw e
+
+pub absent_shown : (x : Test) → x.progress.measuring.kept ≡ false → engine_shown x ≡ None
+absent_shown x e = unshown x (none_shown x e)
 
 window_shown_lem : (x : Test) → x.progress.measuring.kept ≡ true → last_window x ≡ Some x.window
 unfolding last_window pick
@@ -386,7 +389,7 @@ window_shown_lem x e = rw e
 
 module _ (v : Vehicle) (log : List Entry) (x : Test) (h : Shows v log x.progress x.window) where
   none_told : some_valid v (mode_in log) (run_in log) ≡ false → (last_window x ≡ None) × (engine_shown x ≡ None)
-  none_told e = let n = none_shown x (h.kept ∙ e) in (n, absent_shown x n)
+  none_told e = (none_shown x (h.kept ∙ e), absent_shown x (h.kept ∙ e))
 
   some_told : some_valid v (mode_in log) (run_in log) ≡ true → WindowTold v log x
   unfolding engine_shown

@@ -15,28 +15,29 @@ mod input;
 mod lines;
 mod reads;
 mod salvages;
+mod space;
 mod writes;
 
-use std::alloc::Global;
+use space::{CELLS, LARGE, RUN, Runs, Space};
 use std::io;
 use std::io::{BufReader, BufWriter, Read, Write};
 
 // Whether there was an item. The topic is a byte of the input's format, and this match is all of its table.
-fn item(input: &mut impl Read, output: &mut impl Write, alloc: Global) -> io::Result<bool> {
+fn item(input: &mut impl Read, output: &mut impl Write, space: &mut Space) -> io::Result<bool> {
     match inputs::byte(input)? {
-        1 => reads::item(input, output, alloc)?,
-        2 => writes::item(input, output, alloc)?,
-        3 => lines::item(input, output, alloc)?,
-        4 => salvages::item(input, output, alloc)?,
+        1 => reads::item(input, output, space)?,
+        2 => writes::item(input, output, space)?,
+        3 => lines::item(input, output, space)?,
+        4 => salvages::item(input, output, space)?,
         _ => return Ok(false),
     }
     Ok(true)
 }
 
 // A proved loop has to end: the turns are more than any input has items.
-fn run(input: &mut impl Read, output: &mut impl Write, alloc: Global) -> io::Result<()> {
+fn run(input: &mut impl Read, output: &mut impl Write, space: &mut Space) -> io::Result<()> {
     for _ in 0..u64::MAX {
-        if !item(input, output, alloc)? {
+        if !item(input, output, space)? {
             break;
         }
     }
@@ -47,6 +48,19 @@ fn run(input: &mut impl Read, output: &mut impl Write, alloc: Global) -> io::Res
 fn main(rt: HostRuntime) -> io::Result<()> {
     let mut input = BufReader::new(rt.alloc(), rt.stdin())?;
     let mut output = BufWriter::new(rt.alloc(), rt.stdout())?;
-    run(&mut input, &mut output, rt.alloc())?;
+    // Made in place: what a function answers may be copied, and would take the stack twice.
+    let mut space = Space {
+        bytes: [0; LARGE],
+        output: [0; LARGE],
+        runs: Runs {
+            codes: [0; RUN],
+            settings: [0; RUN],
+            saturation: [0; RUN],
+            cells: [0; CELLS],
+            pasts: [0; RUN],
+            causes: [0; RUN],
+        },
+    };
+    run(&mut input, &mut output, &mut space)?;
     output.flush()
 }

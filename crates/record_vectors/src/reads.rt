@@ -1,31 +1,27 @@
 // Topic 1: a record is read; if it is fit, its content is taken out, written again and compared with the record.
+use crate::space::{LARGE, Runs, Space};
 use crate::{content, input};
 use record::Record;
-use std::alloc::{AllocError, Global};
 use std::io;
 use std::io::{Read, Write};
 
 // Whether the content fills an output of the record's length with the record's bytes.
-fn comes_back(r: Record, alloc: Global) -> Result<bool, AllocError> {
-    let mut out = vec![in alloc; 0u8; r.bytes.len()]?;
-    let taken = content::taken(r, alloc)?;
-    let answer = record::write_record(&mut out, &taken.content());
-    Ok((answer == Ok(r.bytes.len())) & (out.as_slice() == r.bytes))
+fn comes_back(r: Record, output: &mut [u8; LARGE], runs: &mut Runs) -> bool {
+    let out = &mut output[..r.bytes.len().min(LARGE)];
+    let answer = record::write_record(out, &content::taken(r, runs));
+    (answer == Ok(r.bytes.len())) & (*out == *r.bytes)
 }
 
 pub(crate) fn item(
     input: &mut impl Read,
     output: &mut impl Write,
-    alloc: Global,
+    space: &mut Space,
 ) -> io::Result<()> {
-    let bytes = input::record(input, alloc)?;
-    match record::read_record(&bytes) {
+    let bytes = input::record(input, &mut space.bytes)?;
+    match record::read_record(bytes) {
         Ok(shape) => {
-            let r = Record {
-                bytes: &bytes,
-                shape,
-            };
-            let back = outputs::same(comes_back(r, alloc)?);
+            let r = Record { bytes, shape };
+            let back = outputs::same(comes_back(r, &mut space.output, &mut space.runs));
             writeln!(
                 output,
                 "fit {} {} {} {back}",

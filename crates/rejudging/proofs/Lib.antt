@@ -1,10 +1,10 @@
+pub mod WasRead
 pub mod Cells
 pub mod Order
 pub mod Numerals
 pub mod Spelling
 pub mod Pieces
 pub mod Turns
-pub mod WasRead
 pub mod FirstBytes
 pub mod Lengths
 pub mod Keeping

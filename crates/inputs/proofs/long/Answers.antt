@@ -1,14 +1,8 @@
--- `inputs::long` meets its contract: two shorts, one after the other. Assumes nothing.
-use Rattle.std.proofs.Common.{◌+◌, ◌*◌}
-use Rattle.inputs.specs.Inputs.{short_of, long_of}
-use Rattle.inputs.proofs.Taken.{took, started, and_then}
+-- `inputs::long` meets its contract: a pair of shorts in four bytes taken. Assumes nothing.
+use Rattle.std.proofs.Common.{arith}
+use Rattle.inputs.specs.Inputs.{long_of}
+use Rattle.inputs.proofs.Buffer.{long_in, through}
 use Rattle.inputs.proofs.long.Goals as goal
 
 pub returns : goal.returns
-unfolding long_of
-returns g c =
-    let r0 = took 2 short_of _ _ _ _ c.in_ok-low.was c.short.ensures in
-    let r1 = took 2 short_of _ _ _ _ c.in_ok-high.was c.short-2.ensures in
-    let t0 = started (λ low high. low + 65536 * high) _ in
-    let t1 = and_then 0 2 _ short_of _ _ _ _ _ t0 r0 in
-    and_then 2 2 _ short_of _ _ _ _ _ t1 r1
+returns g c = through 4 long_of _ _ _ _ _ _ (λ xs. long_in 4 0 xs (omega arith)) c.as_slice.ensures c.pair.ensures c.in_ok-bytes.ensures

@@ -1,14 +1,8 @@
--- `inputs::short` meets its contract: two bytes, one after the other. Assumes nothing.
-use Rattle.std.proofs.Common.{◌+◌, ◌*◌}
-use Rattle.inputs.specs.Inputs.{byte_of, short_of}
-use Rattle.inputs.proofs.Taken.{took, started, and_then}
+-- `inputs::short` meets its contract: two bytes taken. Assumes nothing.
+use Rattle.std.proofs.Common.{arith}
+use Rattle.inputs.specs.Inputs.{short_of}
+use Rattle.inputs.proofs.Buffer.{short_by, short_in, taken}
 use Rattle.inputs.proofs.short.Goals as goal
 
 pub returns : goal.returns
-unfolding short_of
-returns g c =
-    let r0 = took 1 byte_of _ _ _ _ c.in_ok-low.was c.byte.ensures in
-    let r1 = took 1 byte_of _ _ _ _ c.in_ok-high.was c.byte-2.ensures in
-    let t0 = started (λ low high. low + 256 * high) _ in
-    let t1 = and_then 0 1 _ byte_of _ _ _ _ _ t0 r0 in
-    and_then 1 1 _ byte_of _ _ _ _ _ t1 r1
+returns g c = taken 2 short_of _ _ _ _ (λ xs. short_in 2 0 xs (omega arith)) (short_by 0 _) c.in_ok-bytes.ensures

@@ -1,7 +1,7 @@
--- `inputs::fill`: what was read so far stands at the buffer's start; each read but the last leaves less of the buffer. Assumes nothing.
+-- `inputs::fill_by`: what was read so far stands at the buffer's start; each read but the last leaves less of the buffer. Assumes nothing.
 use Rattle.std.proofs.Common.{length, take, ◌-◌, ◌≤◌}
 use Rattle.inputs.proofs.Filled.{SoFar}
-use Rattle.inputs.proofs.fill.Given as goal
+use Rattle.inputs.proofs.fill_by.Given as goal
 
 abbrev pub invariant-loop-done : goal.invariant-loop-done
 invariant-loop-done g l =
