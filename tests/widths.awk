@@ -204,11 +204,13 @@ function reach(name) {
     path[++reaching] = name
 }
 
-# A generic function stands at the head of its types. The calls of the library that are known hand on what they are given: a closure among it is
-# on the path with the function that it stands in. A method of a bound is one of trait Readable, the only trait: each of its implementations.
+# A generic function stands at the head of its types. The calls of the library that are known hand on what they are given: each function and
+# closure that is passed on anywhere is on the path with them. A method of a bound is one of trait Readable, the only trait: each of its
+# implementations.
 function look_call(s,    list, called, other) {
     called = head(kid[s, 2])
     if (called ~ hands_on) {
+        for (other in item) if (other ~ /\+Fn(Once|Mut)?::call(_once|_mut)?$/) reach(other)
     } else if (called == "method") {
         for (other in item) if (other ~ /Readable::[a-z_]+$/) reach(other)
     } else if (called !~ /::/) told("a call " head(kid[s, 2]) ", which this check does not know")
