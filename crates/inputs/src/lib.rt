@@ -1,6 +1,6 @@
 // What the programs read from their input: a buffer full, and for those that run vectors little-endian numbers, a start's settings, and a second's
-// readings; zeros past the input's end. Each contract says what is given, and what of the input is left, wherever the input's bytes are known. An error and the input
-// after it are left free, since no clause of std says when a read fails; so is everything where the bytes are not known.
+// readings; zeros past the input's end. Each contract says what is given, and what of the input is left, wherever the input's bytes are known. An error, and the input
+// and a lent buffer after it, are left free, since no clause of std says when a read fails; so is everything where the bytes are not known.
 #![tactic(auto)]
 
 ghost use Rattle.std.specs.Prelude.{◌≡◌, ◌-◌, ◌≤◌, ◌++◌, length, take, replicate};
@@ -26,26 +26,6 @@ use vehicle::Settings;
 // How often a read that was interrupted is tried.
 const TRIES: u64 = u64::MAX;
 
-// The next byte, 0 past the end.
-// Ruled out: a byte left to be read again, and anything but 0 past the end.
-pub fn byte<R: Read>(input: &mut R) -> io::Result<u8>
-    ensures { Takes 1 byte_of (R.remaining input.old) result (R.remaining input.new) }
-{
-    let mut one = [0; 1];
-    for _ in 0..TRIES {
-        match input.read(&mut one) {
-            Ok(0) => return Ok(0),
-            Ok(_) => return Ok(one[0]),
-            Err(e) => {
-                if e.kind() != io::ErrorKind::Interrupted {
-                    return Err(e);
-                }
-            }
-        }
-    }
-    Err(io::Error::from(io::ErrorKind::TimedOut))
-}
-
 // One read, tried again where it was interrupted and `again` is set.
 fn read_once<R: Read>(input: &mut R, into: &mut [u8], again: bool) -> io::Result<usize>
     ensures bound { ReadsAtMost result into.new }
@@ -62,6 +42,18 @@ fn read_once<R: Read>(input: &mut R, into: &mut [u8], again: bool) -> io::Result
         }
     }
     Err(io::Error::from(io::ErrorKind::TimedOut))
+}
+
+// The next byte, 0 past the end.
+// Ruled out: a byte left to be read again, and anything but 0 past the end.
+pub fn byte<R: Read>(input: &mut R) -> io::Result<u8>
+    ensures { Takes 1 byte_of (R.remaining input.old) result (R.remaining input.new) }
+{
+    let mut one = [0; 1];
+    if read_once(input, &mut one, true)? == 0 {
+        return Ok(0);
+    }
+    Ok(one[0])
 }
 
 // Reads until the buffer is full or the input ends, and answers how many bytes it put at the start.
